@@ -18,12 +18,16 @@ const SIZE: usize = 10;
 // The height of a bar for as much as the chip holds.
 const FULL: usize = 34;
 
-/// The colours, and the sizes of the text.
-pub const STYLE: &str = "<style>text{fill:#1f2328}.m{text-anchor:middle}.z{text-anchor:end}.s{font-size:8px}\
+/// The colours, for a dark screen too, and the sizes of the text.
+pub const STYLE: &str = "<style>text{fill:#1f2328}.p{fill:#fff;stroke:#d0d7de}.m{text-anchor:middle}.z{text-anchor:end}.s{font-size:8px}\
 .c{fill:#ddf4ff;stroke:#0969da}.r{fill:#dafbe1;stroke:#1a7f37}.w{fill:#ffeff7;stroke:#bf3989}\
 .a{fill:#fff8c5;stroke:#9a6700}.e{fill:#ffebe9;stroke:#cf222e}.o{fill:#fbefff;stroke:#8250df}\
 .b{fill:#b6e3ff;stroke:#0969da}.h{fill:#eac54f;stroke:#7d4e00}.g{fill:#57606a}\
-.n{font-weight:bold}</style>\n";
+.n{font-weight:bold}\
+@media(prefers-color-scheme:dark){text{fill:#e6edf3}.p{fill:#0d1117;stroke:#30363d}\
+.c{fill:#0c2d6b;stroke:#58a6ff}.r{fill:#033a16;stroke:#3fb950}.w{fill:#42062a;stroke:#f778ba}\
+.a{fill:#341a00;stroke:#d29922}.e{fill:#490202;stroke:#f85149}.o{fill:#271052;stroke:#bc8cff}\
+.b{fill:#0c2d6b;stroke:#58a6ff}.h{fill:#6b4a00;stroke:#d29922}.g{fill:#8b949e}}</style>\n";
 
 /// Returns a text in which XML reserves no letter.
 pub fn escaped(words: &str) -> String {

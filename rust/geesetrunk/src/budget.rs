@@ -4,6 +4,7 @@ use crate::command_line::Given;
 use crate::end::{End, Status};
 use crate::lateness::{Allowance, LEVELS, NoAllowance, SIZES, Service};
 use crate::options::{number_in, value_of};
+use crate::text::counted;
 use std::fmt::Write as _;
 use uart_language::fields::size_in;
 use uart_spec::registers::{FifoTriggerLevel, Parity, WordLength};
@@ -148,8 +149,7 @@ impl Unit {
     fn text(self, time: u64) -> String {
         match self {
             Unit::Clocks => format!("{} us", microseconds(time)),
-            Unit::Ticks if time == 1 => "1 tick".into(),
-            Unit::Ticks => format!("{time} ticks"),
+            Unit::Ticks => counted(time, "tick"),
         }
     }
 }
@@ -256,7 +256,10 @@ impl Line {
                 self.config.frequency,
                 microseconds(self.config.nanoseconds_within(character).unwrap_or(0)),
             ),
-            Unit::Ticks => format!("a character takes {} ticks\n", self.whole(character)),
+            Unit::Ticks => format!(
+                "a character takes {}\n",
+                self.unit.text(self.whole(character))
+            ),
         };
         let fifo = self.size.map_or("no FIFO".into(), |size| {
             format!("a FIFO of {}", size.characters())

@@ -71,6 +71,8 @@ pub struct Program<J: 'static> {
     pub about: &'static str,
     /// Its commands.
     pub commands: &'static [Command<J>],
+    /// Returns what a value or an operand of this name can be, in capitals as they are named. It is empty if that is no list.
+    pub values: fn(&str) -> Vec<&'static str>,
     /// What the help says behind all that.
     pub more: &'static str,
 }

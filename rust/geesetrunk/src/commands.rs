@@ -2,6 +2,8 @@
 
 use crate::command_line::{Command, Count, Flag, Operand, Program};
 use crate::end::STATUSES;
+use crate::explain::explanations;
+use crate::import::Kind;
 use crate::judging::Judge;
 use crate::script::Task;
 
@@ -465,7 +467,21 @@ recording may have any length.",
             about: "Says in numbers what happened in a recording, in all and from set-up to set-up",
             operands: &[FILES],
             flags: &[
-                COLOR, CLOCK, DIVISOR, FIFO, CHIP, FORMAT, BASE, STRIDE, PORT, IRQ,
+                Flag {
+                    name: "whole",
+                    value: None,
+                    help: "Only what happened in all",
+                },
+                COLOR,
+                CLOCK,
+                DIVISOR,
+                FIFO,
+                CHIP,
+                FORMAT,
+                BASE,
+                STRIDE,
+                PORT,
+                IRQ,
             ],
             more: None,
         },
@@ -589,8 +605,29 @@ recording may have any length.",
             more: None,
         },
     ],
+    values: values_of,
     more: STATUSES,
 };
+
+// Returns what a value or an operand of this name can be.
+fn values_of(name: &str) -> Vec<&'static str> {
+    match name {
+        "CHIP" => vec![
+            "16550a",
+            "16450",
+            "16650",
+            "16750",
+            "16850",
+            "16950",
+            "16550a-256",
+        ],
+        "KIND" => Kind::ALL.into_iter().map(Kind::name).collect(),
+        "NAME" => explanations().map(|row| row.name).collect(),
+        "SHELL" => vec!["bash", "fish", "zsh"],
+        "WHEN" => vec!["auto", "always", "never"],
+        _ => Vec::new(),
+    }
+}
 
 /// The program `uart_port`.
 pub const UART_PORT: Command<()> = Command {
@@ -631,3 +668,28 @@ and marks are not printed, since a port does not show what they report.",
     ],
     more: Some(STATUSES),
 };
+
+#[cfg(test)]
+mod tests {
+    use super::*;
+    use crate::command_line::Shell;
+    use crate::terminal::Colour;
+    use uart_language::fields::chip_in;
+
+    // Shells complete by these words.
+    #[test]
+    fn what_a_value_can_be_is_accepted() {
+        type Accepts = fn(&str) -> bool;
+        let rows: [(&str, Accepts); 4] = [
+            ("CHIP", |word| chip_in(word.as_bytes()).is_ok()),
+            ("KIND", |word| Kind::named(word).is_some()),
+            ("SHELL", |word| Shell::named(word).is_some()),
+            ("WHEN", |word| Colour::named(word).is_some()),
+        ];
+        for (name, accepts) in rows {
+            let words = values_of(name);
+            assert!(!words.is_empty(), "{name}");
+            assert!(words.into_iter().all(accepts), "{name}");
+        }
+    }
+}

@@ -4,14 +4,13 @@
 //! looks until a bit is set is a matter of time.
 
 use crate::end::{End, Status};
-use crate::findings::counted;
 use crate::import::Import;
 use crate::judging::{Stop, is_of_use};
 use crate::log::Log;
 use crate::meaning::{Latch, words_of};
 use crate::resets::{Entries, Next, Resets};
 use crate::streams::{Output, standard_output};
-use crate::text::STANDARD_INPUT;
+use crate::text::{STANDARD_INPUT, counted};
 use std::cell::RefCell;
 use std::collections::VecDeque;
 use std::io::{self, Read, Write};

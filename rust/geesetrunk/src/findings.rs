@@ -15,6 +15,7 @@ use crate::log::Log;
 use crate::sarif::Sarif;
 use crate::streams::{Output, bytes_of, print, standard_output};
 use crate::terminal::{Paint, Style};
+use crate::text::counted;
 use std::cell::RefCell;
 use std::io::{self, Write};
 use std::num::NonZeroU64;
@@ -66,14 +67,6 @@ impl Judge {
             Judge::Audit => "warning",
             Judge::Replay => "difference",
         }
-    }
-}
-
-/// Returns a count with its noun: `1 line`, `2 lines`.
-pub fn counted(count: u64, noun: &str) -> String {
-    match count {
-        1 => format!("1 {noun}"),
-        _ => format!("{count} {noun}s"),
     }
 }
 
@@ -388,11 +381,5 @@ mod tests {
             json("a\n.recording", "3", "note", "n", "a \"b\"", 2),
             r#"{"file":"a\n.recording","line":3,"kind":"note","name":"n","text":"a \"b\"","times":2}"#
         );
-    }
-
-    #[test]
-    fn one_is_no_plural() {
-        assert_eq!(counted(1, "line"), "1 line");
-        assert_eq!(counted(0, "warning"), "0 warnings");
     }
 }

@@ -1,12 +1,12 @@
 //! A log that a command reads as a recording, and how the program ends if it cannot be read to its end.
 
 use crate::end::End;
-use crate::findings::counted;
 use crate::import::{Import, Kind, Opened, Refused, Unopened, open_log};
 use crate::judging::Stop;
 use crate::refused_line::refused_line;
 use crate::streams::{Output, Watched};
 use crate::terminal::Style;
+use crate::text::counted;
 use std::cell::RefCell;
 use std::io::{self, Read, Write};
 use uart_judges::recording::RecordingError;

@@ -3,13 +3,15 @@
 //! Nothing here decides anything about the chip or the driver. `rust/web` compiles it to WebAssembly, and has the page.
 
 mod beside;
+mod chip;
 mod document;
 mod exploring;
 mod recorded;
 mod state;
 
-pub use beside::{Beside, WIRE, chip_of};
+pub use beside::Beside;
+pub use chip::SeenChip;
 pub use document::{page_of_run, print_page_of_log};
-pub use exploring::{ONLY_SIXTEEN, explored, played};
+pub use exploring::{explored, played};
 pub use recorded::{entries, explanations_of_all, findings};
-pub use state::state_of;
+pub use state::State;

@@ -350,7 +350,7 @@ fn framed(title: &str, body: &str, height: usize) -> String {
          viewBox=\"0 0 {WIDTH} {height}\" font-family=\"monospace\" font-size=\"10\">\
          <title>{whole}</title>\n\
          {STYLE}\
-         <rect width=\"100%\" height=\"100%\" rx=\"6\" fill=\"#ffffff\" stroke=\"#d0d7de\"/>\n\
+         <rect class=\"p\" width=\"100%\" height=\"100%\" rx=\"6\"/>\n\
          <text class=\"n\" x=\"10\" y=\"20\" font-size=\"12\">{begin}</text>\n\
          {body}</svg>\n"
     )

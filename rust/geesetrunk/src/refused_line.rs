@@ -200,7 +200,7 @@ fn bad_log(line: &[u8], first: &[u8], cause: &'static str) -> Refusal {
 
 fn unknown_word(line: &[u8], cause: &'static str) -> Refusal {
     let wants = if line.starts_with(b" ") {
-        "a line begins with a word, and not with a space"
+        "a line begins with a word, and not with a space; --format says another kind of log"
     } else if line.starts_with(b"chip ") {
         "a recording, which this is not: it is a script. timeline draws one without --recording, --line and --last"
     } else {
@@ -274,7 +274,7 @@ mod tests {
             (
                 " r 5 60",
                 1,
-                "a line begins with a word, and not with a space",
+                "a line begins with a word, and not with a space; --format says another kind of log",
             ),
             ("r\t5 60", 2, "printable ASCII, and not the byte 09"),
             ("serial_read addr 5 val 0x60", 18, LOG),

@@ -5,14 +5,14 @@ use crate::excerpt::Form;
 use crate::fault::Explanation;
 use crate::heap;
 use crate::history::History;
-use crate::page::{ONLY_SIXTEEN, page_of_run};
+use crate::page::page_of_run;
 use crate::picture::picture;
 use crate::ring_language::{AnyScript, parse};
 use crate::rings::play_rings;
 use crate::streams::{Output, bytes_of, print, standard_output};
 use crate::table::write_table;
 use crate::terminal::Style;
-use crate::text::file_name;
+use crate::text::{counted, file_name};
 use crate::trace::{write_ring_trace, write_trace};
 use std::fs::File;
 use std::io::{self, Write};
@@ -47,8 +47,8 @@ pub fn kind_of(script: &Script) -> ChipKind {
     }
 }
 
-// Returns the name of a chip, with the size of its FIFOs if they are larger than those of its model.
-fn name_of(chip: ChipKind) -> String {
+/// Returns the name of a chip, with the size of its FIFOs if they are larger than those of its model.
+pub fn name_of(chip: ChipKind) -> String {
     match (chip.model, chip.size) {
         (Chip::Uart16450, _) => "16450".into(),
         (Chip::Uart16550A, FifoSize::Sixteen) => "16550A".into(),
@@ -60,7 +60,8 @@ fn name_of(chip: ChipKind) -> String {
 /// chip of its script.
 pub fn title(file: &str, script: &Script) -> String {
     let (name, chip) = (file_name(file), name_of(kind_of(script)));
-    format!("{name}: {chip}, {} ticks a character", script.ticks())
+    let ticks = counted(script.ticks().into(), "tick");
+    format!("{name}: {chip}, {ticks} a character")
 }
 
 // Returns how the program ends if a script that is accepted is not played to its end. If the output
@@ -110,10 +111,6 @@ fn write_output(
             }
             AnyScript::Rings(_) => write_ring_trace(script, text, &history(), out),
         },
-        Task::Page if script.plain().fifo_size() != FifoSize::Sixteen => {
-            let others = "take the picture, or --text";
-            Err(End::failed(format!("{file}: {ONLY_SIXTEEN}: {others}")))
-        }
         Task::Page => {
             let page = page_of_run(file_name(file), text);
             out.write_all(page.as_bytes()).map_err(End::unwritten)

@@ -9,6 +9,7 @@ use crate::log::Log;
 use crate::meaning::Latch;
 use crate::resets::Next;
 use crate::streams::{Output, standard_output};
+use crate::text::counted;
 use crate::visits::Lateness;
 use std::cell::RefCell;
 use std::collections::VecDeque;
@@ -101,9 +102,9 @@ impl Counts {
         rows.push((
             "accesses",
             format!(
-                "{accesses} ({} reads, {} writes){}",
-                self.reads,
-                self.writes,
+                "{accesses} ({}, {}){}",
+                counted(self.reads, "read"),
+                counted(self.writes, "write"),
                 a_byte(accesses)
             ),
         ));
@@ -119,8 +120,8 @@ impl Counts {
             rows.push(("reads of ISR that show none", self.idle_reads.to_string()));
         }
         let of_reads = format!(
-            "{} repeated reads of LSR, {:.1} % of the accesses",
-            self.polls,
+            "{} of LSR, {:.1} % of the accesses",
+            counted(self.polls, "repeated read"),
             share(self.polls, accesses)
         );
         let time = match (self.first, self.last) {
@@ -330,12 +331,13 @@ impl Counter {
         }
     }
 
-    fn text(&self, file: &str, lines: u64) -> String {
+    // Returns what is counted of the whole.
+    fn text_of_whole(&self, file: &str, lines: u64) -> String {
         let mut all = Counts::from(1);
         for phase in &self.phases {
             all.add(&phase.counts);
         }
-        let mut text = format!("{file}: {lines} lines\n");
+        let mut text = format!("{file}: {}\n", counted(lines, "line"));
         write_rows(&mut text, &all);
         if all.received > 0 && all.latest.is_none() {
             let _ = match self.driver.lack_of_lateness() {
@@ -346,6 +348,12 @@ impl Counter {
                 ),
             };
         }
+        text
+    }
+
+    // Returns what is counted of the whole, and from set-up to set-up.
+    fn text(&self, file: &str, lines: u64) -> String {
+        let mut text = self.text_of_whole(file, lines);
         if self.phases.len() > 1 {
             for (index, phase) in self.phases.iter().enumerate() {
                 let end = self
@@ -369,12 +377,12 @@ fn write_rows(text: &mut String, counts: &Counts) {
     }
 }
 
-/// Prints what happened in the recording of this name, in numbers.
+/// Prints what happened in the recording of this name, in numbers: in all, and from set-up to set-up unless the whole is enough.
 ///
 /// # Errors
 ///
 /// How the program ends: the recording cannot be read to its end, or the output cannot be written.
-pub fn stats(file: &str, import: &Import, known: &Known) -> Result<(), End> {
+pub fn stats(file: &str, import: &Import, known: &Known, is_whole: bool) -> Result<(), End> {
     let output = RefCell::new(Output::new(standard_output().map_err(End::unwritten)?));
     let mut log = Log::open(file, "stats", import, &output)?;
     let mut counter = Counter::new(*known);
@@ -383,7 +391,10 @@ pub fn stats(file: &str, import: &Import, known: &Known) -> Result<(), End> {
         Ok(())
     });
     let outcome = outcome.and_then(|lines| {
-        let text = counter.text(file, lines);
+        let text = match is_whole {
+            true => counter.text_of_whole(file, lines),
+            false => counter.text(file, lines),
+        };
         let written = output.borrow_mut().write_all(text.as_bytes());
         written.map_err(Stop::Output)
     });
@@ -397,29 +408,34 @@ pub fn stats(file: &str, import: &Import, known: &Known) -> Result<(), End> {
 mod tests {
     use super::*;
 
-    fn counted(recording: &str) -> String {
+    fn counter_of(recording: &str) -> (Counter, u64) {
         let mut counter = Counter::new(Known::default());
         let lines = each_entry(recording.as_bytes(), |next| {
             counter.next(next);
             Ok(())
         });
-        counter.text("a", lines.unwrap())
+        (counter, lines.unwrap())
+    }
+
+    fn text_of(recording: &str) -> String {
+        let (counter, lines) = counter_of(recording);
+        counter.text("a", lines)
     }
 
     #[test]
     fn what_happened_is_counted() {
-        let text = counted(
+        let text = text_of(
             "r 5 00 0 @1000\nr 5 60 0 @2000\nw 0 41 0 @3000\na 00 42 1 @4000\nr 2 04 1 @5000\nr 0 42 0 @9000\nr 2 01 0 @9500\n",
         );
         for row in [
             "  bytes sent: 1\n",
             "  bytes read: 1\n",
             "  bytes arrived: 1\n",
-            "  accesses: 6 (5 reads, 1 writes), 3.00 a byte\n",
+            "  accesses: 6 (5 reads, 1 write), 3.00 a byte\n",
             "  interrupts: 1 identified by ISR, 0.50 a byte\n",
             "  reads of ISR that show none: 1\n",
             "  time: 8.5 us\n",
-            "  polling: 1 repeated reads of LSR, 16.7 % of the accesses, 1.0 us and 11.8 % of the time\n",
+            "  polling: 1 repeated read of LSR, 16.7 % of the accesses, 1.0 us and 11.8 % of the time\n",
             "  longest wait from arrival to read: 5.0 us, of the byte that is read at line 6\n",
         ] {
             assert!(text.contains(row), "{row}{text}");
@@ -435,7 +451,7 @@ mod tests {
 
     #[test]
     fn a_phase_is_from_one_set_up_to_the_next() {
-        let text = counted("r 5 60\nw 3 03\nw 0 41\nw 0 41\nw 3 1b\nw 0 42\n");
+        let text = text_of("r 5 60\nw 3 03\nw 0 41\nw 0 41\nw 3 1b\nw 0 42\n");
         assert!(
             text.contains("\nlines 1 to 5: divisor not seen, 8 data bits, no parity"),
             "{text}"
@@ -447,8 +463,23 @@ mod tests {
     }
 
     #[test]
+    fn the_whole_can_be_had_alone() {
+        let (counter, lines) = counter_of("r 5 60\nw 3 03\nw 0 41\nw 0 41\nw 3 1b\nw 0 42\n");
+        let text = counter.text("a", lines);
+        let (whole, _) = text.split_once("\n\n").unwrap();
+        assert_eq!(counter.text_of_whole("a", lines), format!("{whole}\n"));
+    }
+
+    #[test]
+    fn one_is_no_plural() {
+        let text = text_of("r 5 60\n");
+        assert!(text.starts_with("a: 1 line\n"), "{text}");
+        assert!(text.contains("accesses: 1 (1 read, 0 writes)"), "{text}");
+    }
+
+    #[test]
     fn repeats_are_polls() {
-        let text = counted("r 5 00\nx 99\nr 5 60\nw 0 41\n");
+        let text = text_of("r 5 00\nx 99\nr 5 60\nw 0 41\n");
         assert!(text.contains("polling: 100 repeated reads"), "{text}");
     }
 }

@@ -24,6 +24,23 @@ pub fn printable(bytes: &[u8]) -> String {
         .collect()
 }
 
+/// Returns a count with its noun.
+///
+/// # Examples
+///
+/// ```
+/// use geesetrunk::text::counted;
+///
+/// assert_eq!(counted(1, "line"), "1 line");
+/// assert_eq!(counted(0, "warning"), "0 warnings");
+/// ```
+pub fn counted(count: u64, noun: &str) -> String {
+    match count {
+        1 => format!("1 {noun}"),
+        _ => format!("{count} {noun}s"),
+    }
+}
+
 /// Returns the line of the bytes with this index, or an empty one if there are fewer lines.
 pub fn line_at(bytes: &[u8], index: usize) -> &[u8] {
     lines(bytes).nth(index).unwrap_or_default()

@@ -320,10 +320,40 @@ fn completions_name_each_command_and_flag() {
     for shell in ["bash", "fish", "zsh"] {
         let (status, text, _) = parts(&run(GEESETRUNK, &["completions", shell], b""));
         assert_eq!(status, 0);
-        for word in ["play", "verify", "manual", "recording", "json", "limit"] {
+        for word in [
+            "play",
+            "verify",
+            "manual",
+            "recording",
+            "json",
+            "limit",
+            "kvm memory",
+            "sent-beyond-room",
+        ] {
             assert!(text.contains(word), "{word} in {text}");
         }
     }
+}
+
+// Lines of what is printed begin with the name of a file, and a terminal does what its bytes say.
+#[test]
+fn a_word_with_a_control_character_is_refused() {
+    for (words, shown) in [
+        (&["audit", "a\nb: 0 warnings"][..], "a?b: 0 warnings"),
+        (&["show", "\x1b[31ma"], "?[31ma"),
+        (&["explain", "a\u{9b}2J"], "a??2J"),
+    ] {
+        let (status, text, errors) = parts(&run(GEESETRUNK, words, b"r 5 60\n"));
+        assert_eq!((status, text.as_str()), (2, ""));
+        let wanted = format!(
+            "a word of the command line has a control character: {shown}. Read a file of such a name from standard input\n"
+        );
+        assert_eq!(errors, wanted);
+    }
+    // A file with this name would have been read.
+    let (status, _, errors) = parts(&run(UART_PORT, &["2f8", "a\tb"], b""));
+    assert_eq!(status, 2);
+    assert!(errors.contains("a control character: a?b"), "{errors}");
 }
 
 // Bash itself completes, if it is there.
@@ -334,6 +364,17 @@ fn bash_completes_words() {
         ("geesetrunk ver", 1, "verify"),
         ("geesetrunk verify --li", 2, "--limit"),
         ("geesetrunk verify a --j", 3, "--json"),
+        ("geesetrunk audit --format kv", 3, "kvm"),
+        ("geesetrunk play --color al", 3, "always"),
+        ("geesetrunk stats --chip 1675", 3, "16750"),
+        ("geesetrunk shrink --name divisor-z", 3, "divisor-zero"),
+        ("geesetrunk explain sent-b", 2, "sent-beyond-room"),
+        (
+            "geesetrunk explain divisor-zero sent-b",
+            3,
+            "sent-beyond-room",
+        ),
+        ("geesetrunk completions z", 2, "zsh"),
     ] {
         let test = format!(
             "{script}\nCOMP_WORDS=({words})\nCOMP_CWORD={place}\n_geesetrunk\necho \"${{COMPREPLY[*]}}\"\n"

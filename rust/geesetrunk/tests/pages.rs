@@ -2,7 +2,9 @@
 
 mod common;
 
-use common::{EXAMPLES, GEESETRUNK, parts, run};
+use common::{EXAMPLES, GEESETRUNK, examples, parts, run};
+use geesetrunk::page::explored;
+use std::fs;
 
 // Returns the data of the page that these words print, with the exit status.
 fn data(words: &[&str], input: &[u8]) -> (i32, String) {
@@ -28,6 +30,22 @@ fn a_page_has_a_run() {
         run.contains("[\"lsr\",\"ok 62\"]") && run.contains("\"stray\":null"),
         "{run}"
     );
+}
+
+// The chip that is shown goes beside that of the run, whatever chip that is. It is looked at after each step, so a look that changed
+// anything would be seen too.
+#[test]
+fn each_run_has_the_chip_that_is_shown() {
+    let mut shown = 0;
+    let rings = examples("rings", "script", "out");
+    for (path, _) in examples("", "script", "out").into_iter().chain(rings) {
+        let run = explored(&fs::read(&path).unwrap());
+        if run.starts_with("{\"chip\":") {
+            assert!(run.contains(",\"stray\":null}"), "{}", path.display());
+            shown += 1;
+        }
+    }
+    assert!(shown > 90, "{shown}");
 }
 
 #[test]

@@ -13,20 +13,24 @@ function showChip(state, before, about) {
   ];
 }
 
-function cells(count, room, cellOf) {
+function cells(count, state, cellOf) {
   const made = [];
-  for (let place = 0; place < 16; place++) {
+  const room = roomOf(state);
+  for (let place = 0; place < state.size; place++) {
     const { text = "", kind = "", title } = place < count ? cellOf(place) : {};
     made.push(make("div", { class: classes("cell", kind, place >= room && "none"), title }, text));
   }
   return made;
 }
 
-const roomOf = (state) => (state.fifo ? 16 : 1);
+const roomOf = (state) => (state.fifo ? state.size : 1);
+
+// A queue with so many places has small ones.
+const cellsOf = (state) => classes("cells", state.size > 64 && "small");
 
 function transmitPath(state, about) {
   const held = state.held.match(/../g) || [];
-  const row = cells(held.length, roomOf(state), (place) => ({ text: character(parseInt(held[place], 16)), kind: "held" }));
+  const row = cells(held.length, state, (place) => ({ text: character(parseInt(held[place], 16)), kind: "held" }));
   let shifting = make("div", { class: "shifting" }, "shift register empty");
   if (state.shifting) {
     const [byte, left] = state.shifting;
@@ -37,12 +41,12 @@ function transmitPath(state, about) {
   }
   const shown = held.map((byte) => character(parseInt(byte, 16))).join(" ");
   const said = `transmit: ${counted(held.length, "character")}${held.length ? `: ${shown}` : ""}`;
-  return make("div", { class: "path" }, make("span", {}, "transmit"), make("div", { class: "cells", role: "img", "aria-label": said }, ...row),
+  return make("div", { class: "path" }, make("span", {}, "transmit"), make("div", { class: cellsOf(state), role: "img", "aria-label": said }, ...row),
       shifting);
 }
 
 function receivePath(state) {
-  const row = cells(state.waiting.length, roomOf(state), (place) => {
+  const row = cells(state.waiting.length, state, (place) => {
     const [byte, errors] = state.waiting[place];
     const withErrors = errors ? ` with ${namesOf("LSR", errors).join(", ")}` : "";
     const kind = classes("waiting", errors && "error", state.fifo && place + 1 === state.trigger && "trigger");
@@ -52,7 +56,7 @@ function receivePath(state) {
   const room = state.fifo ? `trigger at ${state.trigger}` : "no FIFO: room for 1";
   const waiting = state.waiting.map(([byte, errors]) => character(byte) + (errors ? ` with ${namesOf("LSR", errors).join(", ")}` : ""));
   const said = `receive: ${counted(waiting.length, "character")}${waiting.length ? `: ${waiting.join(" ")}` : ""}`;
-  return make("div", { class: "path" }, make("span", {}, "receive"), make("div", { class: "cells", role: "img", "aria-label": said }, ...row),
+  return make("div", { class: "path" }, make("span", {}, "receive"), make("div", { class: cellsOf(state), role: "img", "aria-label": said }, ...row),
       make("span", {}, room));
 }
 
@@ -82,8 +86,18 @@ function interruptRow(state) {
       make("b", {}, `interrupt line ${state.irq ? "up" : "down"} `),
       make("span", { class: "label" }, served),
     ),
-    make("span", { class: "label" }, `divisor ${divisor}${rate}`, lost),
+    make("span", { class: "label" }, flowText(state), `divisor ${divisor}${rate}`, lost),
   );
+}
+
+const AUTO_FLOW = 0x20;
+const CTS = 0x10;
+
+// What the chip does by itself with RTS and CTS, if MCR says that it may.
+function flowText(state) {
+  if (!(state.mcr & AUTO_FLOW)) return "";
+  const sends = state.msr & CTS ? "CTS on: it sends" : "CTS off: it holds back";
+  return `flow control by the chip: RTS ${state.asks ? "on" : "off"}, ${sends} · `;
 }
 
 function bitsOf(register, value, old) {
@@ -106,7 +120,7 @@ function interruptBits(value, old) {
   return [
     fifo(7),
     fifo(6),
-    make("span"),
+    (value >> 5) & 1 ? make("span", { class: "bit set", title: "FIFOs of 64" }, "64") : make("span"),
     make("span"),
     make("span", { class: classes("bit wide", cause !== 1 && "set", isChanged && "changed") }, name),
     make("span", { class: classes("bit", value & 1 && "set", (value ^ old) & 1 && "changed"), title: "no interrupt is pending" }, "none"),
@@ -136,6 +150,8 @@ function changes(before, now) {
   if ((before.isr ^ now.isr) & 15) said.push(`ISR: ${CAUSES[before.isr & 15]} → ${CAUSES[now.isr & 15]}`);
   if (before.irq !== now.irq) said.push(now.irq ? "the interrupt line rises" : "the interrupt line falls");
   if (before.fifo !== now.fifo) said.push(now.fifo ? "FIFOs on" : "FIFOs off");
+  if (before.size !== now.size) said.push(`FIFOs of ${now.size}`);
+  if (before.asks !== now.asks && now.mcr & before.mcr & AUTO_FLOW) said.push(`the chip turns RTS ${now.asks ? "on" : "off"}`);
   if (before.trigger !== now.trigger) said.push(`trigger level ${now.trigger}`);
   if (before.waiting.length !== now.waiting.length) said.push(`${counted(now.waiting.length, "character")} in the receiver`);
   if (before.dll !== now.dll || before.dlm !== now.dlm) said.push(`divisor ${256 * now.dlm + now.dll}`);

@@ -35,7 +35,7 @@ class LiveTab {
     this.before = undefined;
     element("terminal").textContent = "";
     element("history").replaceChildren();
-    return this.act("live_new", [Number(element("model").value), CHARACTER, 0], "a new chip");
+    return this.act("live_new", [Number(element("model").value), CHARACTER], "a new chip");
   }
 
   // Does something with the chip, and shows what came of it.

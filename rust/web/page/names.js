@@ -7,7 +7,7 @@ const BITS = {
   MCR: ["DTR", "RTS", "OUT1", "OUT2", "LOOP", "AFE"],
   LSR: ["DR", "OE", "PE", "FE", "BI", "THRE", "TEMT", "FIFOE"],
   MSR: ["ΔCTS", "ΔDSR", "TERI", "ΔCD", "CTS", "DSR", "RI", "CD"],
-  FCR: ["FIFO", "RXCLR", "TXCLR", "DMA", "", "", "TRIG0", "TRIG1"],
+  FCR: ["FIFO", "RXCLR", "TXCLR", "DMA", "", "FIFO64", "TRIG0", "TRIG1"],
 };
 
 const MEANINGS = {
@@ -29,6 +29,7 @@ const MEANINGS = {
   RXCLR: "empty the receiver",
   TXCLR: "empty the transmitter",
   AFE: "automatic flow control",
+  FIFO64: "FIFOs of 64, on a 16750 whose DLAB is set",
   BREAK: "a break is sent",
 };
 

@@ -16,6 +16,9 @@ class ScriptTab {
       element("examples").value = "";
       this.run();
     };
+    // The numbers and the answers are where the script is, and the wheel over them moves it.
+    element("source").onscroll = () => this.align();
+    for (const id of ["numbers", "answers"]) element(id).onwheel = (event) => this.wheeled(event);
     element("stop").onclick = () => this.latest.runner.stop("it was stopped");
     element("scrub").oninput = () => this.go(Number(element("scrub").value) - 1);
     element("share").onclick = () => this.share();
@@ -64,7 +67,6 @@ class ScriptTab {
     const isRun = answer.steps !== undefined;
     document.body.classList.toggle("stale", !isRun);
     shown.lines = text.split("\n");
-    element("source").style.height = `${20 * shown.lines.length + 40}px`;
     if (isRun) {
       shown.run = answer;
       element("fault").textContent = faultOfRun(answer);
@@ -119,7 +121,20 @@ class ScriptTab {
     element("answers").replaceChildren(...answers);
     const current = element("numbers").querySelector(".current");
     // Whoever types sees the line that is typed.
-    if (current && document.activeElement !== element("source")) reveal(element("source").parentElement, current);
+    if (current && document.activeElement !== element("source")) reveal(element("source"), current);
+    this.align();
+  }
+
+  // Where the script is at its end, the page goes on.
+  wheeled(event) {
+    const source = element("source");
+    const before = source.scrollTop;
+    source.scrollBy(0, event.deltaY);
+    if (source.scrollTop !== before) event.preventDefault();
+  }
+
+  align() {
+    for (const id of ["numbers", "answers"]) element(id).scrollTop = element("source").scrollTop;
   }
 
   move(where) {

@@ -63,7 +63,7 @@ function centred(text, x, y, color) {
 function bar(count, most, x, y, color) {
   if (!count) return [];
   const high = Math.max(2, (28 * Math.min(count, most)) / most);
-  return [make("rect", { x: x + 1, y: y + 32 - high, width: STEP - 2, height: high, fill: color, opacity: 0.55 }), centred(`${count}`, x, y + 28)];
+  return [make("rect", { x: x + 1, y: y + 32 - high, width: STEP - 2, height: high, fill: color, opacity: 0.3 }), centred(`${count}`, x, y + 28)];
 }
 
 function cellOf(name, step, x, y, run) {
@@ -84,9 +84,9 @@ function cellOf(name, step, x, y, run) {
       return [make("polygon", { points, fill: color }), centred(`${hex(byte)}${letters} ${mark}`, x, y + 24, mark === "x" ? color : "")];
     }
     case "waiting":
-      return bar(step.state.waiting.length, run.chip === "16450" ? 1 : 16, x, y, "var(--receive)");
+      return bar(step.state.waiting.length, run.chip === "16450" ? 1 : step.state.size, x, y, "var(--receive)");
     case "held":
-      return bar(heldOf(step.state), run.chip === "16450" ? 2 : 17, x, y, "var(--transmit)");
+      return bar(heldOf(step.state), run.chip === "16450" ? 2 : step.state.size + 1, x, y, "var(--transmit)");
     case "wire":
       return step.sent === undefined ? [] : [centred(character(step.sent), x, y + 15, "var(--transmit)")];
     default:

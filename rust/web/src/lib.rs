@@ -149,16 +149,21 @@ pub extern "C" fn explain() {
 // Does something with the live chip, and tells how it is then.
 fn with_live(act: impl FnOnce(&mut Live)) {
     on_page(|page| {
-        let live = page.live.get_or_insert_with(|| Live::new(true, 16, false));
-        act(live);
-        page.told = live.told().into_bytes();
+        if page.live.is_none() {
+            page.live = Live::new(0, 16);
+        }
+        if let Some(live) = &mut page.live {
+            act(live);
+            page.told = live.told().into_bytes();
+        }
     });
 }
 
-/// Starts a live chip anew.
+/// Starts a live chip anew, by its place in the list of the page.
 #[cfg_attr(target_family = "wasm", unsafe(no_mangle))]
-pub extern "C" fn live_new(has_fifo: u32, ticks: u32, cuts: u32) {
-    with_live(|live| *live = Live::new(has_fifo != 0, ticks as u16, cuts != 0));
+pub extern "C" fn live_new(place: usize, ticks: u32) {
+    on_page(|page| page.live = Live::new(place, ticks as u16));
+    with_live(|_| ());
 }
 
 /// Reads a register of the live chip.

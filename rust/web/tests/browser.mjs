@@ -58,6 +58,14 @@ async function scripts(browser) {
   await browser.drop("a.script", "chip 16550a 4 64\nlimit 200\ninit 14 9600 nocts 00 8\nsend 4869\nflush\n");
   holds("a script that is dropped is played", await browser.until("document.querySelector('#ends').firstChild.textContent === 'wire4869'"));
   const script = Buffer.from("chip 16450 4 64\nlimit 200\ninit off 9600 nocts 00 8\nsend 41\nflush\n").toString("base64");
+  const to64 = Buffer.from("chip 16750 4 64\nlimit 200\ninit 14 9600 nocts 00 8\nset-modem-control 22\nsend 4142\nlsr\n").toString("base64");
+  await browser.open(`#script=${to64}`);
+  await browser.key("End");
+  holds("a chip with larger FIFOs has all their places",
+      await browser.value("[...document.querySelectorAll('#view .cells')].map((one) => one.children.length)"), [64, 64]);
+  holds("what it does with RTS and CTS",
+      await browser.value("/flow control by the chip: RTS on, CTS off: it holds back/.test(document.querySelector('#view').textContent)"));
+  await browser.picture("larger");
   await browser.open("#script=%");
   holds("an address without a script", await browser.value("document.querySelector('#source').value.startsWith('# the address has no script')"));
   await browser.open(`#script=${script}`);
@@ -95,10 +103,39 @@ async function longRuns(browser) {
   holds("an edit ends what ran", await browser.until("document.querySelector('#fault').textContent === '' && shown.run.calls[0][1] === 'ok 60'"));
 }
 
+// The end of a long line can be reached, and the answers stay beside their lines.
+async function longLines(browser) {
+  const waits = "lsr\\n".repeat(60);
+  await browser.open("#example=overrun");
+  await browser.value(`{
+    element("source").value = "chip 16550a 4 64\\nlimit 200\\ninit 14 9600 nocts 00 8\\n${waits}send-exact ${"41".repeat(64)}\\n";
+    element("source").dispatchEvent(new Event("input"));
+  }`);
+  await browser.until("shown.lines.length === 65 && shown.run.calls.length === 62");
+  holds("a long line has more than is seen", await browser.value("element('source').scrollWidth > element('source').clientWidth"));
+  await browser.value("element('source').scrollLeft = 1e6, element('source').scrollTop = 1e6");
+  const isAtEnd = "element('source').scrollLeft + element('source').clientWidth >= element('source').scrollWidth - 1"
+      + " && element('source').scrollLeft > 0 && /auto|scroll/.test(getComputedStyle(element('source')).overflowX)";
+  holds("its end can be scrolled to", await browser.until(isAtEnd));
+  const places = "['numbers', 'answers'].map((id) => Math.abs(element(id).scrollTop - element('source').scrollTop) < 1)";
+  holds("its number and its answer go with it", await browser.until(`${places}.every(Boolean) && element('source').scrollTop > 300`));
+  await browser.value("element('source').scrollTop = 0");
+  await browser.until("element('answers').scrollTop === 0");
+  await browser.value("element('answers').dispatchEvent(new WheelEvent('wheel', { deltaY: 200, cancelable: true }))");
+  holds("the wheel over the answers moves the script", await browser.until(`element('source').scrollTop > 100 && ${places}.every(Boolean)`));
+}
+
 async function links(browser) {
   await browser.open("#link=hello");
   holds("two chips at a cable", await browser.until("/right \\d+: .* = ok 48656c6c6f/.test(document.querySelector('#linked').textContent)"));
   holds("their picture", await browser.until("document.querySelector('#linked-picture svg') !== null"));
+  holds("whole lines of what they returned are shown",
+      await browser.value("element('linked').clientHeight % parseFloat(getComputedStyle(element('linked')).lineHeight)"), 0);
+  await browser.value(DARKEN);
+  holds("in the dark the picture is dark",
+      await browser.value("getComputedStyle(document.querySelector('#linked-picture .p')).fill"), "rgb(13, 17, 23)");
+  await browser.open("#link=hello");
+  await browser.until("document.querySelector('#linked-picture svg') !== null");
   await browser.picture("link");
   await browser.value(
       "document.querySelector('#left').value = 'chip 16550a 4 64\\nsing\\n', document.querySelector('#left').dispatchEvent(new Event('input'))");
@@ -240,6 +277,11 @@ async function live(browser) {
   await browser.value("document.querySelector('#anew').click()");
   await browser.value("document.querySelectorAll('#reads button')[5].click()");
   holds("a register is read by hand", await browser.until("/you read LSR → 60/.test(document.querySelector('#history').textContent)"));
+  const cells = "document.querySelector('#live-view .cells').children.length";
+  await browser.value("element('model').value = '7', element('anew').click()");
+  holds("a 16750 begins with FIFOs of 16", await browser.until(`${cells} === 16 && /a new chip/.test(element('history').firstChild.textContent)`));
+  await browser.value("element('set-up').click()");
+  holds("and the driver switches them to 64", await browser.until(`${cells} === 64 && /FIFOs of 64|64/.test(element('live-view').textContent)`));
 }
 
 // What the program prints has no module, and shows the same.
@@ -335,12 +377,108 @@ const FOUND = `(() => {
   ];
 })()`;
 
+// Roles that there are, and headings in their order: a reader goes from one to the next.
+const STRUCTURE = `(() => {
+  const isShown = (one) => one.getClientRects().length > 0;
+  const levels = [...document.querySelectorAll("h1, h2, h3, h4")].filter(isShown).map((one) => Number(one.tagName[1]));
+  const roles = new Set(["tablist", "tab", "tabpanel", "img", "status", "log", "region", "alert", "group", "slider", "presentation"]);
+  const told = (one) => one.tagName.toLowerCase() + (one.id ? "#" + one.id : "." + one.className);
+  const bad = (what, all) => all.map((one) => what + ": " + told(one));
+  const panels = [...document.querySelectorAll("section.panel")].filter(isShown);
+  return [
+    ...(levels[0] === 1 && levels.filter((level) => level === 1).length === 1 ? [] : ["the first heading is " + levels[0]]),
+    ...levels.flatMap((level, index) => (index && level > levels[index - 1] + 1 ? ["from heading " + levels[index - 1] + " to " + level] : [])),
+    ...bad("no such role", [...document.querySelectorAll("[role]")].filter((one) => !roles.has(one.getAttribute("role")))),
+    ...bad("a picture without a name", [...document.querySelectorAll("[role=img], svg, img")].filter(
+      (one) => isShown(one) && !one.closest("[aria-hidden]") && !one.getAttribute("aria-label") && !one.querySelector("title"))),
+    ...bad("a panel without a heading", panels.filter((one) => !one.querySelector("h2"))),
+    ...bad("a tab that does not say whether it is chosen",
+        [...document.querySelectorAll("[role=tab]")].filter((one) => !one.hasAttribute("aria-selected"))),
+    ...(document.title ? [] : ["no title"]),
+    ...(/user-scalable=no|maximum-scale/.test(document.querySelector("meta[name=viewport]")?.content) ? ["it cannot be enlarged"] : []),
+  ];
+})()`;
+
+// The colours of the dark, whatever the system has: its rules hold for every screen then.
+const DARKEN = `{
+  const rules = [...document.styleSheets].flatMap((sheet) => [...sheet.cssRules]);
+  for (const rule of rules) if (rule instanceof CSSMediaRule && /dark/.test(rule.conditionText)) rule.media.mediaText = "all";
+}`;
+
+// Texts that cannot be told from what is behind them, by the least contrast of WCAG: 4.5, and 3 for large letters. Colours are laid over
+// one another as the browser does it: from the innermost element outwards, and in a picture from the last shape back.
+const CONTRAST = `(() => {
+  const canvas = document.createElement("canvas").getContext("2d", { willReadFrequently: true });
+  const rgba = (color) => {
+    canvas.clearRect(0, 0, 1, 1);
+    canvas.fillStyle = color;
+    canvas.fillRect(0, 0, 1, 1);
+    const [red, green, blue, alpha] = canvas.getImageData(0, 0, 1, 1).data;
+    return [red, green, blue, alpha / 255];
+  };
+  const over = ([r, g, b, a], below) => [r, g, b].map((part, index) => part * a + below[index] * (1 - a));
+  const linear = (part) => (part / 255 <= 0.04045 ? part / 255 / 12.92 : ((part / 255 + 0.055) / 1.055) ** 2.4);
+  const light = ([r, g, b]) => 0.2126 * linear(r) + 0.7152 * linear(g) + 0.0722 * linear(b);
+  const ratio = (one, other) => {
+    const [low, high] = [light(one), light(other)].sort((a, b) => a - b);
+    return (high + 0.05) / (low + 0.05);
+  };
+  const behind = (one) => {
+    const layers = [];
+    for (let at = one; at; at = at.parentElement) layers.push(rgba(getComputedStyle(at).backgroundColor));
+    return layers.reverse().reduce((below, layer) => over(layer, below), [255, 255, 255]);
+  };
+  // What shapes of the picture are under the middle of a text.
+  const behindText = (text) => {
+    const box = text.getBoundingClientRect();
+    const [x, y] = [box.x + box.width / 2, box.y + box.height / 2];
+    const shapes = [...text.ownerSVGElement.querySelectorAll("rect")].filter((shape) => {
+      const { left, right, top, bottom } = shape.getBoundingClientRect();
+      const isBefore = shape.compareDocumentPosition(text) & Node.DOCUMENT_POSITION_FOLLOWING;
+      return isBefore && left <= x && x <= right && top <= y && y <= bottom;
+    });
+    return shapes.reduce((below, shape) => {
+      const { fill, opacity } = getComputedStyle(shape);
+      const [r, g, b, a] = fill === "none" ? [0, 0, 0, 0] : rgba(fill);
+      return over([r, g, b, a * Number(opacity)], below);
+    }, behind(text.ownerSVGElement));
+  };
+  const found = new Set();
+  const judge = (one, color, back) => {
+    const style = getComputedStyle(one);
+    const size = parseFloat(style.fontSize);
+    const least = size >= 24 || (size >= 18.66 && Number(style.fontWeight) >= 700) ? 3 : 4.5;
+    const contrast = ratio(over(rgba(color), back), back);
+    if (contrast < least) {
+      found.add(one.tagName.toLowerCase() + "." + (one.getAttribute("class") || one.id || one.parentElement.className) + " " + contrast.toFixed(2));
+    }
+  };
+  const hasText = (one) => [...one.childNodes].some((node) => node.nodeType === Node.TEXT_NODE && node.data.trim());
+  // What stands for a place that a chip does not have is faint on purpose.
+  const isSeen = (one) => one.getClientRects().length > 0 && !one.closest(".none, title, option, noscript, script, style")
+      && Number(getComputedStyle(one).opacity) > 0;
+  for (const one of document.querySelectorAll("body *")) {
+    if (!isSeen(one)) continue;
+    if (one.ownerSVGElement) {
+      if (one.tagName === "text") judge(one, getComputedStyle(one).fill, behindText(one));
+    } else if (hasText(one) || /^(TEXTAREA|INPUT|SELECT)$/.test(one.tagName)) {
+      judge(one, getComputedStyle(one).color, behind(one));
+    }
+  }
+  return [...found];
+})()`;
+
 async function accessible(browser) {
   await hasFocus(browser, "that each control shows its focus");
   for (const fragment of ["#example=overrun-fifo&step=38", "#link=hello", "#recording=wrong-driver", "#live"]) {
     await browser.open(fragment);
     await browser.until("![...document.querySelectorAll('.tab.shown [role=status]')].some((one) => /is judged/.test(one.textContent))");
+    if (fragment === "#link=hello") await browser.until("document.querySelector('#linked-picture svg') !== null");
     holds(`${fragment}: names, focus and keys`, await browser.value(FOUND), []);
+    holds(`${fragment}: roles and headings`, await browser.value(STRUCTURE), []);
+    holds(`${fragment}: contrast in the light`, await browser.value(CONTRAST), []);
+    await browser.value(DARKEN);
+    holds(`${fragment}: contrast in the dark`, await browser.value(CONTRAST), []);
   }
 }
 
@@ -372,8 +510,8 @@ browser.process.on("exit", () => {
   process.exit(counts.failed ? 1 : 0);
 });
 await browser.attach();
-const parts = [scripts, longRuns, links, recordings, longRecordings, longestRecording, addresses, keyboard, keysAlone, accessible, live, look, phone,
-    printed, network];
+const parts = [scripts, longLines, longRuns, links, recordings, longRecordings, longestRecording, addresses, keyboard, keysAlone, accessible,
+    live, look, phone, printed, network];
 for (const part of parts) await part(browser);
 counts.isDone = true;
 browser.close();

@@ -428,7 +428,7 @@ fn run(job: Job, given: &Given) -> Result<(), End> {
         Job::Show => show_recording(given),
         Job::Stats => {
             let (log, known) = (import_of(given)?, known_of(given)?);
-            each(given, |file| stats(file, &log, &known))
+            each(given, |file| stats(file, &log, &known, given.has("whole")))
         }
         Job::Diff => compare(given),
         Job::Shrink => shrink_recording(given),

@@ -31,17 +31,29 @@ fn command_words<J>(program: &Program<J>) -> String {
     words.join(" ")
 }
 
+// Returns the words that a value or an operand of this name can be, with spaces between them.
+fn value_words<J>(program: &Program<J>, name: &str) -> String {
+    (program.values)(name).join(" ")
+}
+
+// Returns the words that the operands of a command can be. It is empty for files.
+fn operand_words<J>(program: &Program<J>, command: &Command<J>) -> String {
+    let last = command.operands.last();
+    last.map_or(String::new(), |operand| value_words(program, operand.name))
+}
+
 fn flag_words<J>(command: &Command<J>) -> String {
     let flags = command.flags.iter().map(|flag| format!("--{}", flag.name));
     flags.chain(["--help".into()]).collect::<Vec<_>>().join(" ")
 }
 
-// Bash completes a word that begins with a hyphen by a flag of the command, and else by a file.
+// Bash completes a word that begins with a hyphen by a flag of the command, one behind such a flag by what its value can be, and else by
+// what the command takes, which mostly are files.
 fn bash<J>(program: &Program<J>) -> String {
     let name = program.name;
     let mut text = format!(
         "_{name}() {{\n    \
-         local word=${{COMP_WORDS[COMP_CWORD]}} flags\n    \
+         local word=${{COMP_WORDS[COMP_CWORD]}} before=${{COMP_WORDS[COMP_CWORD-1]}} flags= values=\n    \
          COMPREPLY=()\n    \
          if ((COMP_CWORD == 1)); then\n        \
          COMPREPLY=($(compgen -W '{} help --help --version' -- \"$word\"))\n        \
@@ -53,16 +65,27 @@ fn bash<J>(program: &Program<J>) -> String {
     for command in program.commands {
         let _ = writeln!(
             text,
-            "        {}) flags='{}' ;;",
+            "        {}) flags='{}' values='{}' ;;",
             command.word(),
-            flag_words(command)
+            flag_words(command),
+            operand_words(program, command)
         );
+    }
+    text.push_str("    esac\n    case ${COMP_WORDS[1]}:$before in\n");
+    for command in program.commands {
+        for flag in command.flags {
+            let values = value_words(program, flag.value.unwrap_or_default());
+            if !values.is_empty() {
+                let (word, flag) = (command.word(), flag.name);
+                let _ = writeln!(text, "        {word}:--{flag}) values='{values}' ;;");
+            }
+        }
     }
     let _ = write!(
         text,
-        "        *) flags= ;;\n    \
-         esac\n    \
-         [[ $word == -* ]] && COMPREPLY=($(compgen -W \"$flags\" -- \"$word\"))\n\
+        "    esac\n    \
+         [[ $word == -* ]] && values=$flags\n    \
+         COMPREPLY=($(compgen -W \"$values\" -- \"$word\"))\n\
          }}\n\
          complete -o bashdefault -o default -F _{name} {name}\n"
     );
@@ -83,8 +106,19 @@ fn fish<J>(program: &Program<J>) -> String {
             text,
             "complete -c {name} -n __fish_use_subcommand -a {word} -d {about}"
         );
+        let operands = operand_words(program, command);
+        if !operands.is_empty() {
+            let _ = writeln!(
+                text,
+                "complete -c {name} -n '__fish_seen_subcommand_from {word}' -f -a '{operands}'"
+            );
+        }
         for flag in command.flags {
-            let value = if flag.value.is_some() { " -r" } else { "" };
+            let value = match flag.value.map(|value| value_words(program, value)) {
+                None => String::new(),
+                Some(values) if values.is_empty() => " -r".into(),
+                Some(values) => format!(" -x -a '{values}'"),
+            };
             let (flag, help) = (flag.name, quoted(flag.help));
             let _ = writeln!(
                 text,
@@ -111,10 +145,10 @@ fn zsh<J>(program: &Program<J>) -> String {
             .flags
             .iter()
             .map(|flag| {
-                let value = if let Some(value) = flag.value {
-                    format!(":{value}:")
-                } else {
-                    String::new()
+                let value = match flag.value.map(|value| (value, value_words(program, value))) {
+                    None => String::new(),
+                    Some((value, values)) if values.is_empty() => format!(":{value}:"),
+                    Some((value, values)) => format!(":{value}:({values})"),
                 };
                 format!(
                     " {}",
@@ -126,9 +160,13 @@ fn zsh<J>(program: &Program<J>) -> String {
                 )
             })
             .collect();
+        let operands = match operand_words(program, command) {
+            words if words.is_empty() => "'*:file:_files'".into(),
+            words => format!("'*:word:({words})'"),
+        };
         let _ = writeln!(
             text,
-            "        {}) _arguments{flags} '*:file:_files' ;;",
+            "        {}) _arguments{flags} {operands} ;;",
             command.word()
         );
     }

@@ -3,6 +3,7 @@
 use super::{Command, Count, Flag, Program};
 use crate::end::End;
 use crate::near::nearest;
+use crate::text::printable;
 use std::ffi::OsString;
 
 const MORE: &str = "For more information, try '--help'.";
@@ -47,13 +48,22 @@ impl Given {
 ///
 /// # Errors
 ///
-/// How the program ends if a word is not UTF-8.
+/// How the program ends if a word is not UTF-8, or has a control character.
+// Words are printed, and most of them are names of files: a newline in one would be the end of a line that others read, and a terminal
+// would do what an escape says.
 pub fn words() -> Result<Vec<String>, End> {
-    std::env::args_os()
+    let words: Vec<String> = std::env::args_os()
         .skip(1)
         .map(OsString::into_string)
         .collect::<Result<_, _>>()
-        .map_err(|_| End::failed("a word of the command line is not UTF-8"))
+        .map_err(|_| End::failed("a word of the command line is not UTF-8"))?;
+    match words.iter().find(|word| word.contains(char::is_control)) {
+        Some(word) => Err(End::failed(format!(
+            "a word of the command line has a control character: {}. Read a file of such a name from standard input",
+            printable(word.as_bytes())
+        ))),
+        None => Ok(words),
+    }
 }
 
 fn wrong(cause: &str, usage: &str) -> Reply {
@@ -69,8 +79,6 @@ impl<J> Command<J> {
             .and_then(|word| nearest(word, flags.chain(["help"])))
         {
             cause += &format!("\n\n  tip: a similar argument exists: '--{near}'");
-        } else if word.starts_with('-') && !self.operands.is_empty() {
-            cause += &format!("\n\n  tip: to pass '{word}' as a value, use '-- {word}'");
         }
         wrong(&cause, &self.usage())
     }
@@ -267,6 +275,7 @@ mod tests {
         version: "1.0",
         about: "Does what choirs do",
         commands: &[SING],
+        values: |_| Vec::new(),
         more: "More",
     };
 
@@ -307,8 +316,7 @@ mod tests {
         );
         assert_wrong(
             "a --soft",
-            "error: unexpected argument '--soft' found\n\n  \
-             tip: to pass '--soft' as a value, use '-- --soft'\n\n\
+            "error: unexpected argument '--soft' found\n\n\
              Usage: choir sing [OPTIONS] <SONG> [VOICE]...\n\nFor",
         );
         assert_wrong("a -l", "unexpected argument '-l' found");

@@ -1,5 +1,6 @@
 //! The addresses of a chip: which register an address reaches.
 
+use crate::text::counted;
 use std::fmt::Write;
 use uart_spec::NUM_REGISTERS;
 
@@ -118,7 +119,7 @@ impl Seen {
             } else {
                 ", "
             };
-            let _ = write!(text, "{before}{first:#x} ({times} times)");
+            let _ = write!(text, "{before}{first:#x} ({})", counted(*times, "time"));
         }
         if !text.is_empty() {
             text += ". Say where the chip is by --port or --base";
@@ -172,7 +173,7 @@ mod tests {
         }
         assert_eq!(
             seen.others(),
-            ". Other addresses were accessed: 0x2f8 (2 times), 0x70 (1 times). Say where the chip is by --port or --base"
+            ". Other addresses were accessed: 0x2f8 (2 times), 0x70 (1 time). Say where the chip is by --port or --base"
         );
     }
 }

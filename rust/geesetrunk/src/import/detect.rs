@@ -4,6 +4,7 @@
 //! they are only guessed, and only where most lines at the beginning fit.
 
 use super::{Kind, csv, json, kvm, plain, qemu, sigrok, words};
+use crate::text::counted;
 use std::fmt;
 use uart_judges::recording::{RecordingLine, line_in};
 
@@ -21,7 +22,8 @@ pub struct Guess {
 
 impl fmt::Display for Guess {
     fn fmt(&self, f: &mut fmt::Formatter<'_>) -> fmt::Result {
-        write!(f, "{} of its first {} lines", self.fitting, self.looked_at)
+        let lines = counted(self.looked_at as u64, "line");
+        write!(f, "{} of its first {lines}", self.fitting)
     }
 }
 

@@ -14,20 +14,12 @@ use crate::moments::{Moment, parts};
 use crate::observing::{Show, observe};
 use crate::repeats::{Merging, Place, Shown};
 use crate::ring_language::{AnyScript, parse};
-use crate::script::printed_for;
+use crate::script::{kind_of, name_of, printed_for};
 use crate::text::lines;
 use std::fmt::Write;
 use std::io;
-use uart_chip::Chip;
 use uart_language::{Cause, ScriptError};
-use uart_spec::FifoSize;
 use uart_trace::plain;
-
-/// What a page says of a chip with larger FIFOs. The live chip that goes beside a run has FIFOs of 16.
-pub const ONLY_SIXTEEN: &str = "a page shows no chip with FIFOs of more than 16 characters";
-
-// The column of the chip's name in the first line.
-const NAME_COLUMN: usize = "chip ".len() + 1;
 
 // The most steps that are kept. The others are counted.
 const MOST: usize = 20_000;
@@ -134,7 +126,7 @@ impl Show for &mut Following<'_> {
         if next.is_some_and(|step| step.last == self.done) {
             self.after.push(After {
                 time: moment.time,
-                state: self.beside.state(),
+                state: self.beside.state().to_string(),
             });
         }
         self.done += 1;
@@ -211,7 +203,7 @@ fn run_of(script: &AnyScript, text: &[u8]) -> Option<String> {
     let history = History::new(text, &printed);
     let mut finding = Finding::default();
     observe(script, text, &mut finding).ok()?;
-    let beside = Beside::new(script.plain());
+    let mut beside = Beside::new(script.plain()).ok()?;
     let first = beside.state();
     let mut following = Following {
         beside,
@@ -226,10 +218,7 @@ fn run_of(script: &AnyScript, text: &[u8]) -> Option<String> {
         .calls
         .iter()
         .map(|call| format!("[{},{}]", Quoted(&call.line), Quoted(&call.answer)));
-    let name = match script.plain().chip() {
-        Chip::Uart16550A => "16550A",
-        Chip::Uart16450 => "16450",
-    };
+    let name = name_of(kind_of(script.plain()));
     let stray = following
         .stray
         .map_or("null".into(), |time| time.to_string());
@@ -301,9 +290,6 @@ pub fn explored(bytes: &[u8]) -> String {
         return out_of_memory();
     };
     match parse(&text) {
-        Ok(script) if script.plain().fifo_size() != FifoSize::Sixteen => {
-            refused(1, NAME_COLUMN, ONLY_SIXTEEN, "16550a or 16450")
-        }
         Ok(script) => run_of(&script, &text).unwrap_or_else(out_of_memory),
         Err(ScriptError::OutOfMemory) => out_of_memory(),
         Err(ScriptError::Refused { line, cause }) => why_refused(bytes, line, cause),
@@ -325,11 +311,30 @@ mod tests {
     }
 
     #[test]
-    fn larger_fifos_are_not_shown() {
-        let refused = explored(b"chip 16750 4 64\nlsr\n");
+    fn larger_fifos_are_shown_to_their_last_place() {
+        let arrivals = "arrive 41\n".repeat(65);
+        let script = format!(
+            "chip 16750 4 64\nlimit 200\ninit 14 9600 nocts 00 8\nnext\n{arrivals}isr\nlsr\nreceive 64\n"
+        );
+        let run = explored(script.as_bytes());
+        assert!(run.starts_with(r#"{"chip":"16550A with FIFOs of 64""#));
+        assert!(run.contains("\"stray\":null"));
+        let full = format!("\"waiting\":[{}]", vec!["[65,0]"; 64].join(","));
+        assert!(run.contains(&full));
+        assert!(run.contains(",\"size\":64,\"trigger\":56,"));
+    }
+
+    // The transmitter holds back while CTS is off, and the receiver asks the other end to stop when it has as many as the level.
+    #[test]
+    fn flow_control_by_the_chip_is_shown() {
+        let run = explored(
+            b"chip 16750 4 64\nlimit 200\ninit 1 9600 nocts 00 8\nset-modem-control 22\nsend 41\ntick 100\nlsr\n\
+              lines 1\ntick 100\nlsr\narrive 42\nlsr\n",
+        );
+        assert!(run.contains("\"stray\":null"), "{run}");
         assert!(
-            refused.starts_with(r#"{"line":1,"column":6,"cause":"a page shows no chip"#),
-            "{refused}"
+            run.contains("\"asks\":true") && run.contains("\"asks\":false"),
+            "{run}"
         );
     }
 

@@ -1,56 +1,70 @@
-//! How a live chip is, as JSON: what each register would show, without the effect of a read.
+//! How a chip is, as JSON: what each register would show, without the effect of a read.
 
-use std::fmt::Write;
-use uart_chip::ChipData;
-use uart_chip::receiving::characters_of;
-use uart_live::LiveChip;
-use uart_spec::FifoSize;
-use uart_spec::registers::offsets;
+use std::fmt;
+use uart_chip::{Character, Latches, Shifting};
 
-fn hex(bytes: &[u8]) -> String {
-    bytes.iter().fold(String::new(), |mut text, byte| {
-        // A text in memory takes everything.
-        let _ = write!(text, "{byte:02x}");
-        text
-    })
+/// How a chip is.
+pub struct State {
+    /// The registers that keep what is written to them.
+    pub latches: Latches,
+    /// What a read of ISR would show.
+    pub isr: u8,
+    /// What a read of LSR would show.
+    pub lsr: u8,
+    /// What a read of MSR would show.
+    pub msr: u8,
+    /// Whether the FIFOs are on.
+    pub has_fifo_on: bool,
+    /// How many characters each FIFO has room for.
+    pub size: usize,
+    /// With how many characters an interrupt comes.
+    pub trigger: u8,
+    /// The bytes that wait to be sent.
+    pub held: Vec<u8>,
+    /// What is in the shift register.
+    pub shifting: Option<Shifting>,
+    /// The characters that wait to be read.
+    pub waiting: Vec<Character>,
+    /// Whether the interrupt line is up.
+    pub is_interrupting: bool,
+    /// Whether the chip asks the other end to send, by its output RTS.
+    pub asks: bool,
+    /// How many bytes were written while there was no room.
+    pub overflows: u64,
 }
 
-// Returns what a read of this register would return. It is made on a copy.
-fn peek(saved: &ChipData, wire: &[u8], offset: usize) -> u8 {
-    LiveChip::from_data(saved, wire).map_or(0, |mut copy| copy.read(offset as u8))
-}
-
-/// Returns how a chip is, as an object of JSON.
-pub fn state_of(chip: &LiveChip) -> String {
-    let (saved, wire) = (chip.data(), chip.wire());
-    let (latches, receiver, transmitter) = (&saved.latches, &saved.receiver, &saved.transmitter);
-    let peek = |offset| peek(&saved, wire, offset);
-    let shifting = transmitter
-        .shift_register
-        .map_or("null".into(), |shifting| {
+impl fmt::Display for State {
+    fn fmt(&self, f: &mut fmt::Formatter<'_>) -> fmt::Result {
+        let held: String = self.held.iter().map(|byte| format!("{byte:02x}")).collect();
+        let shifting = self.shifting.map_or("null".into(), |shifting| {
             format!("[{},{}]", shifting.byte, shifting.ticks_left)
         });
-    let waiting: Vec<_> = receiver
-        .queue
-        .iter()
-        .map(|character| format!("[{},{}]", character.byte, character.errors))
-        .collect();
-    format!(
-        "{{\"ier\":{},\"isr\":{},\"lcr\":{},\"mcr\":{},\"lsr\":{},\"msr\":{},\"dll\":{},\"dlm\":{},\
-         \"fifo\":{},\"trigger\":{},\"held\":\"{}\",\"shifting\":{shifting},\"waiting\":[{}],\"irq\":{},\"overflows\":{}}}",
-        latches.ier.bits(),
-        peek(offsets::ISR),
-        latches.lcr.bits(),
-        latches.mcr.bits(),
-        peek(offsets::LSR),
-        peek(offsets::MSR),
-        latches.dll,
-        latches.dlm,
-        saved.fifo,
-        characters_of(FifoSize::Sixteen, receiver.trigger),
-        hex(&transmitter.queue),
-        waiting.join(","),
-        chip.is_interrupting(),
-        transmitter.overflows,
-    )
+        let waiting: Vec<_> = self
+            .waiting
+            .iter()
+            .map(|character| format!("[{},{}]", character.byte, character.errors))
+            .collect();
+        let latches = &self.latches;
+        write!(
+            f,
+            "{{\"ier\":{},\"isr\":{},\"lcr\":{},\"mcr\":{},\"lsr\":{},\"msr\":{},\"dll\":{},\"dlm\":{},\
+             \"fifo\":{},\"size\":{},\"trigger\":{},\"held\":\"{held}\",\"shifting\":{shifting},\"waiting\":[{}],\
+             \"irq\":{},\"asks\":{},\"overflows\":{}}}",
+            latches.ier.bits(),
+            self.isr,
+            latches.lcr.bits(),
+            latches.mcr.bits(),
+            self.lsr,
+            self.msr,
+            latches.dll,
+            latches.dlm,
+            self.has_fifo_on,
+            self.size,
+            self.trigger,
+            waiting.join(","),
+            self.is_interrupting,
+            self.asks,
+            self.overflows,
+        )
+    }
 }
