@@ -434,6 +434,30 @@ struct uart_send_error {
     size_t stalled;
 };
 
+struct uart_u64_or_invalid_divisor_error {
+    struct uart_invalid_divisor_error error;
+    uint64_t value;
+};
+
+struct uart_maybe_u32_or_invalid_divisor_error {
+    struct uart_invalid_divisor_error error;
+    struct u16550_core_maybe_u32 value;
+};
+
+struct uart_maybe_maybe_u32 {
+    bool is_some;
+    struct u16550_core_maybe_u32 value;
+};
+
+struct uart_maybe_u64_or_invalid_divisor_error {
+    struct uart_invalid_divisor_error error;
+    struct uart_maybe_u64 value;
+};
+
+struct uart_u64_4 {
+    uint64_t bytes[4];
+};
+
 enum uart_nearest_divisor_error_kind {
     UART_NEAREST_DIVISOR_ERROR_NONE = 0,
     UART_NEAREST_DIVISOR_ERROR_TOO_FAR = 1,
@@ -1220,6 +1244,63 @@ static inline struct u16550_core_baud_rate uart_baud_rate_baud110(void)
 static inline struct u16550_core_baud_rate uart_baud_rate_custom(uint32_t custom)
 {
     struct u16550_core_baud_rate made = { U16550_CORE_BAUD_RATE_CUSTOM, custom };
+    return made;
+}
+
+static inline struct uart_maybe_maybe_u32 uart_some_maybe_u32(struct u16550_core_maybe_u32 value)
+{
+    struct uart_maybe_maybe_u32 made = { true, value };
+    return made;
+}
+
+static inline struct uart_maybe_maybe_u32 uart_no_maybe_u32(void)
+{
+    struct uart_maybe_maybe_u32 made = { false, { false, 0 } };
+    return made;
+}
+
+static inline struct uart_maybe_u32_or_invalid_divisor_error
+uart_good_maybe_u32_or_invalid_divisor_error(struct u16550_core_maybe_u32 value)
+{
+    struct uart_maybe_u32_or_invalid_divisor_error made =
+        { { UART_INVALID_DIVISOR_ERROR_NONE, { 0, 0, { false, 0 } }, 0 }, value };
+    return made;
+}
+
+static inline struct uart_maybe_u32_or_invalid_divisor_error
+uart_bad_maybe_u32_or_invalid_divisor_error(struct uart_invalid_divisor_error error)
+{
+    struct uart_maybe_u32_or_invalid_divisor_error made = { error, { false, 0 } };
+    return made;
+}
+
+static inline struct uart_u64_or_invalid_divisor_error
+uart_bad_u64_or_invalid_divisor_error(struct uart_invalid_divisor_error error)
+{
+    struct uart_u64_or_invalid_divisor_error made = { error, 0 };
+    return made;
+}
+
+static inline struct uart_u64_or_invalid_divisor_error
+uart_good_u64_or_invalid_divisor_error(uint64_t value)
+{
+    struct uart_u64_or_invalid_divisor_error made =
+        { { UART_INVALID_DIVISOR_ERROR_NONE, { 0, 0, { false, 0 } }, 0 }, value };
+    return made;
+}
+
+static inline struct uart_maybe_u64_or_invalid_divisor_error
+uart_bad_maybe_u64_or_invalid_divisor_error(struct uart_invalid_divisor_error error)
+{
+    struct uart_maybe_u64_or_invalid_divisor_error made = { error, { false, 0 } };
+    return made;
+}
+
+static inline struct uart_maybe_u64_or_invalid_divisor_error
+uart_good_maybe_u64_or_invalid_divisor_error(struct uart_maybe_u64 value)
+{
+    struct uart_maybe_u64_or_invalid_divisor_error made =
+        { { UART_INVALID_DIVISOR_ERROR_NONE, { 0, 0, { false, 0 } }, 0 }, value };
     return made;
 }
 
@@ -6458,6 +6539,361 @@ static struct u16550_core_baud_rate uart_baud_rate_from_integer(uint32_t value)
     }
 }
 
+/*
+ * Returns the factor if it is a factor. It is taken apart and put together again, so that the
+ * compiler sees that the test of the called function holds, and leaves no path to its panic.
+ */
+static inline struct uart_maybe_maybe_u32
+uart_known(struct u16550_core_maybe_u32 prescaler_division_factor)
+{
+    if (prescaler_division_factor.is_some) {
+        if (prescaler_division_factor.value <= 15)
+            return uart_some_maybe_u32(uart_some_u32(prescaler_division_factor.value));
+        return uart_no_maybe_u32();
+    }
+    return uart_some_maybe_u32(uart_no_u32());
+}
+
+/*
+ * Returns the factor if a divisor can be computed with these, and otherwise why not.
+ *
+ * Errors
+ *
+ * Those of checked_divisor, but for the ones that depend on the divisor.
+ *
+ * Proved: why the arithmetic does not accept a frequency and a baud rate: no divisor gives a
+ * baud rate of zero, or has a factor above 15; otherwise a frequency of zero has the divisor
+ * 0, which does not fit into the divisor latch.
+ */
+static struct uart_maybe_u32_or_invalid_divisor_error
+uart_accepted(uint32_t frequency, uint32_t baud_rate,
+    struct u16550_core_maybe_u32 prescaler_division_factor)
+{
+    struct uart_maybe_maybe_u32 found = uart_known(prescaler_division_factor);
+    if (found.is_some) {
+        if (baud_rate != 0 && frequency != 0)
+            return uart_good_maybe_u32_or_invalid_divisor_error(found.value);
+        if (baud_rate != 0) {
+            return uart_bad_maybe_u32_or_invalid_divisor_error(
+                uart_invalid_divisor_error_out_of_range(0));
+        }
+    }
+    return uart_bad_maybe_u32_or_invalid_divisor_error(
+        uart_invalid_divisor_error_non_integer(uart_make_non_integer_divisor_error(frequency,
+        baud_rate, prescaler_division_factor)));
+}
+
+/*
+ * Does the same as calc_divisor, but also returns an error if that would panic: if the frequency
+ * or the baud rate is 0, or if the prescaler division factor is above 15.
+ *
+ * Errors
+ *
+ * Those of calc_divisor. A baud rate of 0 or a larger factor gives NonInteger, and otherwise a
+ * frequency of 0 gives OutOfRange with the divisor 0.
+ *
+ * Proved: the answer of the arithmetic if it accepts these, and otherwise why it does not.
+ */
+static inline struct uart_u16_or_invalid_divisor_error
+uart_checked_divisor(uint32_t frequency, uint32_t baud_rate,
+    struct u16550_core_maybe_u32 prescaler_division_factor)
+{
+    struct uart_maybe_u32_or_invalid_divisor_error outcome =
+        uart_accepted(frequency, baud_rate, prescaler_division_factor);
+    if (outcome.error.kind != UART_INVALID_DIVISOR_ERROR_NONE)
+        return uart_bad_u16_or_invalid_divisor_error(outcome.error);
+    return uart_calc_divisor(frequency, baud_rate, outcome.value);
+}
+
+/* Returns the number of data bits. */
+static uint32_t uart_word_length_to_integer(enum u16550_core_word_length word_length)
+{
+    switch (word_length) {
+    case U16550_CORE_WORD_LENGTH_FIVE_BITS:
+        return 5;
+    case U16550_CORE_WORD_LENGTH_SIX_BITS:
+        return 6;
+    case U16550_CORE_WORD_LENGTH_SEVEN_BITS:
+        return 7;
+    case U16550_CORE_WORD_LENGTH_EIGHT_BITS:
+    default:
+        return 8;
+    }
+}
+
+/* Returns how many halves of bits a character has, with its start bit and its stop bits. */
+static inline uint64_t uart_halves(const struct u16550_core_config *config)
+{
+    uint64_t number = config->parity == U16550_CORE_PARITY_DISABLED ? 0 : 2;
+    uint64_t number2 = !config->extra_stop_bits ? 2
+        : (config->data_bits == U16550_CORE_WORD_LENGTH_FIVE_BITS ? 3 : 4);
+    return 2 + 2 * (uint64_t)uart_word_length_to_integer(config->data_bits) + number + number2;
+}
+
+/*
+ * Returns how many clocks of the chip's input a character takes on the line: its start bit,
+ * data bits, parity bit and stop bits, with one and a half stop bits exact.
+ *
+ * Errors
+ *
+ * Those of checked_divisor, if there is no divisor for the baud rate.
+ *
+ * Proved: the time of a character, if there is a divisor for the baud rate; otherwise why
+ * there is none.
+ */
+static struct uart_u64_or_invalid_divisor_error
+uart_config_character_clocks(const struct u16550_core_config *config)
+{
+    struct u16550_core_maybe_u32 factor = config->prescaler_division_factor;
+    uint32_t rate = uart_baud_rate_to_integer(config->baud_rate);
+    struct uart_u16_or_invalid_divisor_error outcome =
+        uart_checked_divisor(config->frequency, rate, factor);
+    if (outcome.error.kind != UART_INVALID_DIVISOR_ERROR_NONE)
+        return uart_bad_u64_or_invalid_divisor_error(outcome.error);
+    return uart_good_u64_or_invalid_divisor_error(
+        8 * ((uint64_t)(factor.is_some ? factor.value : 0) +
+        1) * (uint64_t)outcome.value * uart_halves(config));
+}
+
+/*
+ * Returns the most characters that can arrive within so many clocks.
+ *
+ * That is what a mark of flow control has to leave room for: what is under way on a cable with
+ * such a delay, or comes until a handler runs that is so late.
+ *
+ * Errors
+ *
+ * Those of checked_divisor, if there is no divisor for the baud rate.
+ *
+ * Proved: the most characters that end within so many clocks: one ends at once, and each
+ * other a character's time later.
+ */
+static inline struct uart_u64_or_invalid_divisor_error
+uart_config_characters_in(const struct u16550_core_config *config, uint64_t clocks)
+{
+    struct uart_u64_or_invalid_divisor_error outcome = uart_config_character_clocks(config);
+    if (outcome.error.kind != UART_INVALID_DIVISOR_ERROR_NONE)
+        return uart_bad_u64_or_invalid_divisor_error(outcome.error);
+    return uart_good_u64_or_invalid_divisor_error(clocks / outcome.value + 1);
+}
+
+/*
+ * Returns (value * times + more) / per, if there is one and it fits. No step of it overflows:
+ * what value has above a multiple of per is below it.
+ */
+static struct uart_maybe_u64
+uart_scaled(uint64_t value, uint32_t times, uint32_t per, uint32_t more)
+{
+    if (per == 0)
+        return uart_no_u64();
+    uint64_t number = value / (uint64_t)per;
+    uint64_t number2 = (uint64_t)times;
+    struct uart_maybe_u64 found;
+    if (number2 == 0) {
+        found = uart_some_u64(0);
+    } else {
+        struct uart_maybe_u64 found2;
+        if (number <= UINT64_C(0xffffffffffffffff) / number2)
+            found2 = uart_some_u64(number * number2);
+        else
+            found2 = uart_no_u64();
+        found = found2;
+    }
+    struct uart_maybe_u64 found3 = found;
+    if (!found3.is_some)
+        return uart_no_u64();
+    uint64_t number3 = (value % (uint64_t)per * (uint64_t)times + (uint64_t)more) / (uint64_t)per;
+    if (UINT64_C(0xffffffffffffffff) - number3 < found3.value)
+        return uart_no_u64();
+    return uart_some_u64(found3.value + number3);
+}
+
+/*
+ * Returns the fewest clocks that cover so many nanoseconds: rounded up, as the most that an
+ * access takes, or a handler is late. None if they do not fit.
+ *
+ * Proved: the same rounded up.
+ */
+static inline struct uart_maybe_u64
+uart_config_clocks_covering(const struct u16550_core_config *config, uint64_t nanoseconds)
+{
+    return uart_scaled(nanoseconds, config->frequency, UINT32_C(1000000000),
+        UINT32_C(1000000000) - 1);
+}
+
+/*
+ * Returns the whole clocks within so many nanoseconds: rounded down, as the least that a look
+ * takes. None if they do not fit.
+ *
+ * Proved: the whole part of value * times / per, if there is one that fits into 64 bits.
+ */
+static inline struct uart_maybe_u64
+uart_config_clocks_within(const struct u16550_core_config *config, uint64_t nanoseconds)
+{
+    return uart_scaled(nanoseconds, config->frequency, UINT32_C(1000000000), 0);
+}
+
+/*
+ * Returns the clocks after which a full transmitter has sent all that it holds: the FIFO, of
+ * this size, and the shift register.
+ *
+ * So long at most does a flush take, if the other end does not hold the chip off.
+ *
+ * Errors
+ *
+ * Those of checked_divisor, if there is no divisor for the baud rate.
+ *
+ * Proved: the time of so many characters.
+ */
+static inline struct uart_u64_or_invalid_divisor_error
+uart_config_drain_clocks(const struct u16550_core_config *config, enum u16550_core_fifo_size size)
+{
+    uint64_t number = (uint64_t)uart_fifo_size_characters(size) + 1;
+    struct uart_u64_or_invalid_divisor_error outcome = uart_config_character_clocks(config);
+    if (outcome.error.kind != UART_INVALID_DIVISOR_ERROR_NONE)
+        return uart_bad_u64_or_invalid_divisor_error(outcome.error);
+    return uart_good_u64_or_invalid_divisor_error(number * outcome.value);
+}
+
+/*
+ * Returns how many characters wait in a FIFO of this size when the level is reached: the
+ * number of its name in one of 16, and other numbers in larger ones.
+ *
+ * They are those of a 16550, a 16650, a 16750 and a 16950, and those of DesignWare for 256:
+ * one, a quarter, a half, and two less than full.
+ */
+static size_t
+uart_fifo_trigger_level_characters(enum u16550_core_fifo_trigger_level fifo_trigger_level,
+    enum u16550_core_fifo_size size)
+{
+    struct uart_u64_4 bytes;
+    switch (size) {
+    case U16550_CORE_FIFO_SIZE_SIXTEEN:
+        bytes.bytes[0] = 1;
+        bytes.bytes[1] = 4;
+        bytes.bytes[2] = 8;
+        bytes.bytes[3] = 14;
+        break;
+    case U16550_CORE_FIFO_SIZE_THIRTY_TWO:
+        bytes.bytes[0] = 8;
+        bytes.bytes[1] = 16;
+        bytes.bytes[2] = 24;
+        bytes.bytes[3] = 28;
+        break;
+    case U16550_CORE_FIFO_SIZE_SIXTY_FOUR:
+        bytes.bytes[0] = 1;
+        bytes.bytes[1] = 16;
+        bytes.bytes[2] = 32;
+        bytes.bytes[3] = 56;
+        break;
+    case U16550_CORE_FIFO_SIZE_ONE_HUNDRED_TWENTY_EIGHT:
+        bytes.bytes[0] = 16;
+        bytes.bytes[1] = 32;
+        bytes.bytes[2] = 112;
+        bytes.bytes[3] = 120;
+        break;
+    case U16550_CORE_FIFO_SIZE_TWO_HUNDRED_FIFTY_SIX:
+    default:
+        bytes.bytes[0] = 1;
+        bytes.bytes[1] = 64;
+        bytes.bytes[2] = 128;
+        bytes.bytes[3] = 254;
+        break;
+    }
+    struct uart_u64_4 levels = bytes;
+    switch (fifo_trigger_level) {
+    case U16550_CORE_FIFO_TRIGGER_LEVEL_ONE:
+        return (size_t)levels.bytes[0];
+    case U16550_CORE_FIFO_TRIGGER_LEVEL_FOUR:
+        return (size_t)levels.bytes[1];
+    case U16550_CORE_FIFO_TRIGGER_LEVEL_EIGHT:
+        return (size_t)levels.bytes[2];
+    case U16550_CORE_FIFO_TRIGGER_LEVEL_FOURTEEN:
+    default:
+        return (size_t)levels.bytes[3];
+    }
+}
+
+/*
+ * Returns how many characters more the receiver takes, once as many wait as the trigger level.
+ */
+static inline uint32_t
+uart_spare(const struct u16550_core_config *config, enum u16550_core_fifo_size size)
+{
+    if (config->fifo_trigger_level.is_some) {
+        enum u16550_core_fifo_trigger_level level = config->fifo_trigger_level.value;
+        size_t fifo_size_characters = uart_fifo_size_characters(size);
+        return (uint32_t)(fifo_size_characters - uart_fifo_trigger_level_characters(level, size));
+    }
+    return 0;
+}
+
+/*
+ * Returns the most clocks that may pass from the receiver's interrupt to the handler's read of
+ * ISR, so that no character is dropped without flow control; or None if nothing is left.
+ *
+ * An access takes at most access_clocks. At a line that several ports share those before
+ * this one are served first, for at most before_clocks: the result is then what is left for
+ * the first read of ISR of the whole handler. At a line of its own this is 0. If a line error
+ * is told first, the first byte is read four accesses after ISR. Nothing is left either if two
+ * accesses, as each byte needs, take longer than a character.
+ *
+ * Errors
+ *
+ * Those of checked_divisor, if there is no divisor for the baud rate.
+ *
+ * Proved: how late it may begin where an access takes e clocks, and the others at its line
+ * are served first: an access reads ISR, and the first byte is read four accesses later if a
+ * line error is told before it. It is in time if something is left, and no character comes
+ * while another one is read, by two accesses.
+ */
+static struct uart_maybe_u64_or_invalid_divisor_error
+uart_config_handler_budget(const struct u16550_core_config *config,
+    enum u16550_core_fifo_size size, uint64_t access_clocks, uint64_t before_clocks)
+{
+    struct uart_u64_or_invalid_divisor_error outcome = uart_config_character_clocks(config);
+    if (outcome.error.kind != UART_INVALID_DIVISOR_ERROR_NONE)
+        return uart_bad_maybe_u64_or_invalid_divisor_error(outcome.error);
+    if (outcome.value / 2 < access_clocks)
+        return uart_good_maybe_u64_or_invalid_divisor_error(uart_no_u64());
+    uint64_t most = ((uint64_t)uart_spare(config, size) + 1) * outcome.value - 1;
+    uint64_t number = 4 * access_clocks;
+    uint64_t number2 = before_clocks <= UINT64_C(0xffffffffffffffff) - number
+        ? before_clocks + number : UINT64_C(0xffffffffffffffff);
+    struct uart_maybe_u64 found;
+    if (most < number2)
+        found = uart_no_u64();
+    else
+        found = uart_some_u64(most - number2);
+    return uart_good_maybe_u64_or_invalid_divisor_error(found);
+}
+
+/*
+ * Returns the fewest whole nanoseconds that cover so many clocks: rounded up, as a time to
+ * wait. None if they do not fit, or the frequency is 0.
+ *
+ * Proved: the same rounded up.
+ */
+static inline struct uart_maybe_u64
+uart_config_nanoseconds_covering(const struct u16550_core_config *config, uint64_t clocks)
+{
+    uint32_t number = config->frequency;
+    return uart_scaled(clocks, UINT32_C(1000000000), config->frequency,
+        1 <= number ? number - 1 : 0);
+}
+
+/*
+ * Returns the whole nanoseconds within so many clocks: rounded down, as a time that may be
+ * used up. None if they do not fit, or the frequency is 0.
+ *
+ * Proved: the whole part of value * times / per, if there is one that fits into 64 bits.
+ */
+static inline struct uart_maybe_u64
+uart_config_nanoseconds_within(const struct u16550_core_config *config, uint64_t clocks)
+{
+    return uart_scaled(clocks, UINT32_C(1000000000), config->frequency, 0);
+}
+
 /* Returns how many clock ticks a bit has at divisor 1. */
 static inline uint64_t
 uart_ticks_of(uint32_t baud_rate, struct u16550_core_maybe_u32 prescaler_division_factor)
@@ -6537,6 +6973,58 @@ uart_config_nearest(struct u16550_core_config config, uint32_t per_mille)
     config2.parity = config.parity;
     config2.check_cts_before_sending = config.check_cts_before_sending;
     return uart_good_config_or_nearest_divisor_error(config2);
+}
+
+/*
+ * Returns the spin limit with which no wait for a working transmitter gives up, of a FIFO of
+ * this size: if each look takes at least so many clocks, and the other end does not hold the
+ * chip off. None if a look takes none.
+ *
+ * A wait gives up after at most as many looks in a row as the limit, so after the limit times
+ * the clocks of a look.
+ *
+ * Errors
+ *
+ * Those of checked_divisor, if there is no divisor for the baud rate.
+ *
+ * Proved: The limit with which no wait for a full transmitter gives up, of a FIFO and the
+ * shift register, if each look takes at least e clocks. A character is so many looks, of
+ * which the last may begin before it ends; and one look more finds that the next character
+ * has begun.
+ */
+static struct uart_maybe_u64_or_invalid_divisor_error
+uart_config_spin_limit_for(const struct u16550_core_config *config,
+    enum u16550_core_fifo_size size, uint64_t access_clocks)
+{
+    struct uart_u64_or_invalid_divisor_error outcome = uart_config_character_clocks(config);
+    if (outcome.error.kind != UART_INVALID_DIVISOR_ERROR_NONE)
+        return uart_bad_maybe_u64_or_invalid_divisor_error(outcome.error);
+    if (access_clocks == 0)
+        return uart_good_maybe_u64_or_invalid_divisor_error(uart_no_u64());
+    return uart_good_maybe_u64_or_invalid_divisor_error(
+        uart_some_u64(
+        ((uint64_t)uart_fifo_size_characters(size) + 1) * ((outcome.value - 1) / access_clocks +
+        1 + 1)));
+}
+
+/*
+ * Returns the clocks after which the chip's reception timeout interrupts, if fewer characters
+ * wait than the trigger level: the time of four characters, in which none came and none was
+ * read.
+ *
+ * Errors
+ *
+ * Those of checked_divisor, if there is no divisor for the baud rate.
+ *
+ * Proved: the time of so many characters.
+ */
+static inline struct uart_u64_or_invalid_divisor_error
+uart_config_timeout_clocks(const struct u16550_core_config *config)
+{
+    struct uart_u64_or_invalid_divisor_error outcome = uart_config_character_clocks(config);
+    if (outcome.error.kind != UART_INVALID_DIVISOR_ERROR_NONE)
+        return uart_bad_u64_or_invalid_divisor_error(outcome.error);
+    return uart_good_u64_or_invalid_divisor_error(4 * outcome.value);
 }
 
 /*
@@ -8382,6 +8870,184 @@ int u16550_set_fifo_size(struct u16550 *uart, uint16_t fifo_size)
     return uart_leave(uart, U16550_OK);
 }
 
+int u16550_character_clocks(const struct u16550_config *config, uint64_t *clocks)
+{
+    struct u16550_core_config decoded;
+    struct uart_u64_or_invalid_divisor_error found;
+    int status = UART_USABLE(clocks, u64);
+    if (status == U16550_OK)
+        status = uart_decode_computable(config, &decoded);
+    if (status != U16550_OK)
+        return status;
+    found = uart_config_character_clocks(&decoded);
+    status = uart_status_of_invalid_divisor_error(&found.error);
+    if (status == U16550_OK)
+        *clocks = found.value;
+    return status;
+}
+
+int u16550_handler_budget(const struct u16550_config *config, uint16_t fifo_size,
+    uint64_t access_clocks, uint64_t before_clocks, uint64_t *clocks)
+{
+    struct u16550_core_config decoded;
+    enum u16550_core_fifo_size size;
+    struct uart_maybe_u64_or_invalid_divisor_error found;
+    int status = UART_USABLE(clocks, u64);
+    if (status == U16550_OK)
+        status = uart_decode_computable(config, &decoded);
+    if (status == U16550_OK)
+        status = uart_decode_fifo_size(fifo_size, &size);
+    if (status != U16550_OK)
+        return status;
+    found = uart_config_handler_budget(&decoded, size, access_clocks, before_clocks);
+    status = uart_status_of_invalid_divisor_error(&found.error);
+    if (status == U16550_OK)
+        status = uart_unless(found.value.is_some, U16550_TIME_NOTHING_LEFT);
+    if (status == U16550_OK)
+        *clocks = found.value.value;
+    return status;
+}
+
+int u16550_characters_in(const struct u16550_config *config, uint64_t clocks, uint64_t *characters)
+{
+    struct u16550_core_config decoded;
+    struct uart_u64_or_invalid_divisor_error found;
+    int status = UART_USABLE(characters, u64);
+    if (status == U16550_OK)
+        status = uart_decode_computable(config, &decoded);
+    if (status != U16550_OK)
+        return status;
+    found = uart_config_characters_in(&decoded, clocks);
+    status = uart_status_of_invalid_divisor_error(&found.error);
+    if (status == U16550_OK)
+        *characters = found.value;
+    return status;
+}
+
+int u16550_drain_clocks(const struct u16550_config *config, uint16_t fifo_size, uint64_t *clocks)
+{
+    struct u16550_core_config decoded;
+    enum u16550_core_fifo_size size;
+    struct uart_u64_or_invalid_divisor_error found;
+    int status = UART_USABLE(clocks, u64);
+    if (status == U16550_OK)
+        status = uart_decode_computable(config, &decoded);
+    if (status == U16550_OK)
+        status = uart_decode_fifo_size(fifo_size, &size);
+    if (status != U16550_OK)
+        return status;
+    found = uart_config_drain_clocks(&decoded, size);
+    status = uart_status_of_invalid_divisor_error(&found.error);
+    if (status == U16550_OK)
+        *clocks = found.value;
+    return status;
+}
+
+int u16550_timeout_clocks(const struct u16550_config *config, uint64_t *clocks)
+{
+    struct u16550_core_config decoded;
+    struct uart_u64_or_invalid_divisor_error found;
+    int status = UART_USABLE(clocks, u64);
+    if (status == U16550_OK)
+        status = uart_decode_computable(config, &decoded);
+    if (status != U16550_OK)
+        return status;
+    found = uart_config_timeout_clocks(&decoded);
+    status = uart_status_of_invalid_divisor_error(&found.error);
+    if (status == U16550_OK)
+        *clocks = found.value;
+    return status;
+}
+
+int u16550_spin_limit_for(const struct u16550_config *config, uint16_t fifo_size,
+    uint64_t access_clocks, uint64_t *limit)
+{
+    struct u16550_core_config decoded;
+    enum u16550_core_fifo_size size;
+    struct uart_maybe_u64_or_invalid_divisor_error found;
+    int status = UART_USABLE(limit, u64);
+    if (status == U16550_OK)
+        status = uart_decode_computable(config, &decoded);
+    if (status == U16550_OK)
+        status = uart_decode_fifo_size(fifo_size, &size);
+    if (status != U16550_OK)
+        return status;
+    found = uart_config_spin_limit_for(&decoded, size, access_clocks);
+    status = uart_status_of_invalid_divisor_error(&found.error);
+    if (status == U16550_OK)
+        status = uart_unless(found.value.is_some, U16550_TIME_NO_LIMIT);
+    if (status == U16550_OK)
+        *limit = found.value.value;
+    return status;
+}
+
+int u16550_nanoseconds_within(const struct u16550_config *config, uint64_t clocks,
+    uint64_t *nanoseconds)
+{
+    struct u16550_core_config decoded;
+    struct uart_maybe_u64 found;
+    int status = UART_USABLE(nanoseconds, u64);
+    if (status == U16550_OK)
+        status = uart_decode_computable(config, &decoded);
+    if (status != U16550_OK)
+        return status;
+    found = uart_config_nanoseconds_within(&decoded, clocks);
+    status = uart_unless(found.is_some, U16550_TIME_OUT_OF_RANGE);
+    if (status == U16550_OK)
+        *nanoseconds = found.value;
+    return status;
+}
+
+int u16550_nanoseconds_covering(const struct u16550_config *config, uint64_t clocks,
+    uint64_t *nanoseconds)
+{
+    struct u16550_core_config decoded;
+    struct uart_maybe_u64 found;
+    int status = UART_USABLE(nanoseconds, u64);
+    if (status == U16550_OK)
+        status = uart_decode_computable(config, &decoded);
+    if (status != U16550_OK)
+        return status;
+    found = uart_config_nanoseconds_covering(&decoded, clocks);
+    status = uart_unless(found.is_some, U16550_TIME_OUT_OF_RANGE);
+    if (status == U16550_OK)
+        *nanoseconds = found.value;
+    return status;
+}
+
+int u16550_clocks_within(const struct u16550_config *config, uint64_t nanoseconds, uint64_t *clocks)
+{
+    struct u16550_core_config decoded;
+    struct uart_maybe_u64 found;
+    int status = UART_USABLE(clocks, u64);
+    if (status == U16550_OK)
+        status = uart_decode_computable(config, &decoded);
+    if (status != U16550_OK)
+        return status;
+    found = uart_config_clocks_within(&decoded, nanoseconds);
+    status = uart_unless(found.is_some, U16550_TIME_OUT_OF_RANGE);
+    if (status == U16550_OK)
+        *clocks = found.value;
+    return status;
+}
+
+int u16550_clocks_covering(const struct u16550_config *config, uint64_t nanoseconds,
+    uint64_t *clocks)
+{
+    struct u16550_core_config decoded;
+    struct uart_maybe_u64 found;
+    int status = UART_USABLE(clocks, u64);
+    if (status == U16550_OK)
+        status = uart_decode_computable(config, &decoded);
+    if (status != U16550_OK)
+        return status;
+    found = uart_config_clocks_covering(&decoded, nanoseconds);
+    status = uart_unless(found.is_some, U16550_TIME_OUT_OF_RANGE);
+    if (status == U16550_OK)
+        *clocks = found.value;
+    return status;
+}
+
 int u16550_check_present(struct u16550 *uart, uint8_t *present)
 {
     uint8_t found;
@@ -9592,6 +10258,12 @@ const char *u16550_text(int status)
         return "the UART stayed busy, and ignored LCR";
     case U16550_DESIGN_WARE_INTERRUPT:
         return "an interrupt of the UART does not end";
+    case U16550_TIME_NOTHING_LEFT:
+        return "time: nothing is left for a handler";
+    case U16550_TIME_NO_LIMIT:
+        return "time: a look takes no time";
+    case U16550_TIME_OUT_OF_RANGE:
+        return "time: it does not fit into 64 bits";
     default:
         return "no known status";
     }

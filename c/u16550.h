@@ -175,6 +175,13 @@ enum u16550_design_ware_fault {
     U16550_DESIGN_WARE_INTERRUPT = 151 /* busy detect, or a reception timeout without data, does not end */
 };
 
+/* Why there is no such time. */
+enum u16550_time_error {
+    U16550_TIME_NOTHING_LEFT = 170, /* a handler is too late, however early it begins */
+    U16550_TIME_NO_LIMIT = 171,   /* a look takes no time, so no limit is long enough */
+    U16550_TIME_OUT_OF_RANGE = 172
+};
+
 /*
  * How the device is reached. The functions get the context and an address: the offset of a register, 0 to 7, or after
  * u16550_new_port a port, or after u16550_new_mmio an address of memory. They must return, and must not throw. If one of
@@ -828,6 +835,12 @@ int u16550_default_config(struct u16550_config *config);
  * line then has a rate that differs by as many thousandths at most. Receivers tolerate about 20, of both sides together.
  * Returns an enum u16550_nearest_error if there is none. nearest may be config.
  */
+/*
+ * Proved: the configuration with the frequency at which the nearest divisor is exact, so
+ * that it is the one that the exact arithmetic computes, and the rate is near enough; or the
+ * nearest divisor, which does not fit, or fits and is too far off, as each other divisor
+ * then is.
+ */
 int u16550_nearest(const struct u16550_config *config, uint32_t per_mille, struct u16550_config *nearest);
 
 int u16550_get_io(struct u16550 *uart, struct u16550_io *io);
@@ -849,6 +862,84 @@ int u16550_set_spin_limit(struct u16550 *uart, uint64_t limit);
 int u16550_fifo_size(struct u16550 *uart, uint16_t *fifo_size);
 /* Proved: no access, and this change to the fields. */
 int u16550_set_fifo_size(struct u16550 *uart, uint16_t fifo_size);
+
+/* --------------------------------------------------------------- how long things take
+ *
+ * These take a configuration and no driver, and make no access. Times are in clocks of the chip's input, of which a second has frequency: so
+ * nothing is rounded but by the last four calls. A configuration is refused as by u16550_set_frame; the last four need no divisor. fifo_size
+ * is how many characters the FIFOs hold, as for u16550_set_fifo_size.
+ */
+
+/* How many clocks a character takes on the line: its start bit, data bits, parity bit and stop bits, with one and a half exact. */
+/*
+ * Proved: the time of a character, if there is a divisor for the baud rate; otherwise why
+ * there is none.
+ */
+int u16550_character_clocks(const struct u16550_config *config, uint64_t *clocks);
+
+/*
+ * The most clocks that a handler may be late, so that no character is dropped without flow control: from the receiver's interrupt to the
+ * read of ISR, at the trigger level of the configuration. An access takes at most access_clocks, which u16550_clocks_covering has of
+ * nanoseconds. At a line that several ports share, those before this one are served first, for at most before_clocks; at a line of its own
+ * this is 0. With 0 for both it is the time until the first read of DATA. Returns U16550_TIME_NOTHING_LEFT if nothing is left, also if the
+ * two accesses of a byte take longer than a character.
+ */
+/*
+ * Proved: how late it may begin where an access takes e clocks, and the others at its line
+ * are served first: an access reads ISR, and the first byte is read four accesses later if a
+ * line error is told before it. It is in time if something is left, and no character comes
+ * while another one is read, by two accesses.
+ */
+int u16550_handler_budget(const struct u16550_config *config, uint16_t fifo_size, uint64_t access_clocks,
+                          uint64_t before_clocks, uint64_t *clocks);
+
+/*
+ * How many characters arrive within so many clocks at most: what a mark of flow control has to leave room for, if these pass until the other
+ * end holds back.
+ */
+/*
+ * Proved: the most characters that end within so many clocks: one ends at once, and each
+ * other a character's time later.
+ */
+int u16550_characters_in(const struct u16550_config *config, uint64_t clocks, uint64_t *characters);
+
+/*
+ * How many clocks a full transmitter takes to send all that it holds, the FIFO and the shift register: so long at most does a u16550_flush
+ * take, if the other end does not hold the chip off.
+ */
+/* Proved: the time of so many characters. */
+int u16550_drain_clocks(const struct u16550_config *config, uint16_t fifo_size, uint64_t *clocks);
+
+/* After how many clocks the chip interrupts if fewer characters wait than the trigger level: the time of four characters. */
+/* Proved: the time of so many characters. */
+int u16550_timeout_clocks(const struct u16550_config *config, uint64_t *clocks);
+
+/*
+ * The limit for u16550_set_spin_limit with which no wait for a working transmitter gives up, if each look takes at least access_clocks, and
+ * the other end does not hold the chip off. u16550_clocks_within has these of nanoseconds. Returns U16550_TIME_NO_LIMIT if a look takes
+ * none.
+ */
+/*
+ * Proved: The limit with which no wait for a full transmitter gives up, of a FIFO and the
+ * shift register, if each look takes at least e clocks. A character is so many looks, of
+ * which the last may begin before it ends; and one look more finds that the next character
+ * has begun.
+ */
+int u16550_spin_limit_for(const struct u16550_config *config, uint16_t fifo_size, uint64_t access_clocks, uint64_t *limit);
+
+/*
+ * Clocks as nanoseconds, and back. Those with 'within' round down: for a time that may be used up, and for the least that a look takes. Those
+ * with 'covering' round up: for a time to wait, and for the most that an access takes. They return U16550_TIME_OUT_OF_RANGE if the result does
+ * not fit into 64 bits.
+ */
+/* Proved: the whole part of value * times / per, if there is one that fits into 64 bits. */
+int u16550_nanoseconds_within(const struct u16550_config *config, uint64_t clocks, uint64_t *nanoseconds);
+/* Proved: the same rounded up. */
+int u16550_nanoseconds_covering(const struct u16550_config *config, uint64_t clocks, uint64_t *nanoseconds);
+/* Proved: the whole part of value * times / per, if there is one that fits into 64 bits. */
+int u16550_clocks_within(const struct u16550_config *config, uint64_t nanoseconds, uint64_t *clocks);
+/* Proved: the same rounded up. */
+int u16550_clocks_covering(const struct u16550_config *config, uint64_t nanoseconds, uint64_t *clocks);
 
 /* --------------------------------------------------------------- setting up */
 

@@ -68,6 +68,26 @@ class Tag:
         self.value, self.meaning = value, of
 
 
+def settle_copies(copies):
+    """Decides of numbers that are only copied whether they are sizes of memory. The MIR has no cast from `usize` to `u64`: it is a copy of one
+    into the other. A number that is on neither side is no size if it can be, since 64 bits hold what any size does."""
+    for wanted in (False, True, None):
+        while any(joined(one, wanted) for one in copies):
+            pass
+    for one in copies:
+        if one.to.of.width.join(one.value.of.width):
+            continue
+        if one.to.of.width.is_size:
+            raise Unknown("a number of 64 bits that becomes a size of memory")
+        one.value = c.Cast(one.to.of, one.value)
+
+
+def joined(copy, wanted):
+    """Makes both sides of a copy what one of them is, if that is wanted and the other may be either. Returns whether it did."""
+    to, value = (one.of.width.root() for one in (copy.to, copy.value))
+    return to is not value and {to.decided, value.decided} == {wanted, None} and to.join(value)
+
+
 class Body:
     def __init__(self, library, key):
         self.library, self.key = library, key
@@ -75,18 +95,19 @@ class Body:
         self.tree = library.forest.tree(key)
         Webs(self.tree).run()
         self.information = library.source.find(key[0])
-        self.variables, self.labels = {}, 0
+        self.variables, self.labels, self.copies = {}, 0, []
         self.single, self.changing = self.defined_once(), self.changed_in_part()
         self.result = self.declared_type(self.tree.locals[0], self.information.result if self.information else key[0])
         self.parameters = [self.parameter(order) for order in range(1, self.tree.params + 1)]
         self.statements = self.list(self.tree.body, [])
+        settle_copies(self.copies)
 
     def defined_once(self):
-        """The value of each local that one assignment defines."""
+        """The value, or the call, of each local that one assignment defines."""
         found = {}
         for one in walk(self.tree.body):
             if isinstance(one, (Assign, Call)) and not one.place.steps:
-                found.setdefault(one.place.local, []).append(one.value if isinstance(one, Assign) else None)
+                found.setdefault(one.place.local, []).append(one.value if isinstance(one, Assign) else one)
         return {local: values[0] for local, values in found.items() if len(values) == 1}
 
     def changed_in_part(self):
@@ -162,7 +183,7 @@ class Body:
         if isinstance(value, Place):
             return self.load(value).of.to
         if isinstance(value, Address):
-            of = self.walk(self.start(value.place.local), self.tree.locals[value.place.local], value.place.steps)[1]
+            of = self.place(value.place)[1]
             return self.types.c(of[1] if of[0] == "Array" else of)
         raise Unknown("a bare pointer that comes from nowhere")
 
@@ -182,7 +203,7 @@ class Body:
         raise Unknown(f"an operand {one}")
 
     def load(self, place):
-        return self.walk(self.start(place.local), self.tree.locals[place.local], place.steps)[0]
+        return self.place(place)[0]
 
     def start(self, local):
         found = self.variable(local)
@@ -190,15 +211,16 @@ class Body:
             return None
         return Pair(c.Var(found.pointer), c.Var(found.length)) if isinstance(found, Pair) else c.Var(found)
 
-    def walk(self, one, of, steps):
-        """What steps lead to, and its type."""
-        steps = list(steps)
+    def place(self, place):
+        """What the steps of a place lead to, and its type."""
+        one, of, steps = self.start(place.local), self.tree.locals[place.local], list(place.steps)
         while steps:
+            whole = place.local if len(steps) == len(place.steps) else None
             word, value = steps.pop(0)
             if word == "Deref":
                 one, of = self.behind(one, value), value
             elif word == "Variant":
-                one, of = self.part_of_variant(one, of, value, steps.pop(0)[1])
+                one, of = self.part_of_variant(one, of, value, steps.pop(0)[1], whole)
             elif word == "Field":
                 one, of = self.part(one, of, value)
             else:
@@ -241,14 +263,23 @@ class Body:
             made = c.Pointer(c.BYTE)
         return self.with_slice(c.Field(one, name, made), inner), inner
 
-    def payload(self, one, name, of):
-        """A part of a value of a type that any type may be a part of: its width is not known from there."""
+    def payload(self, one, name, of, whole):
+        """A part of a value of a type that any type may be a part of: its width is not known from there, unless the value is all of a local
+        that a function of ours has returned, and that says of its numbers that they are no sizes."""
         made = self.types.c(of)
         if isinstance(made, c.Number) and self.types.kind(of).kind == "number":
-            made = c.Number(made.bits)
+            made = c.Number(made.bits, U64 if made.bits == 64 and self.has_no_size(whole) else None)
         return self.with_slice(c.Field(one, name, made), of)
 
-    def part_of_variant(self, one, of, tag, order):
+    def has_no_size(self, local):
+        """Whether a local is what a function of ours has returned, in which the source has `u64` and no `usize`."""
+        value = self.single.get(local)
+        while isinstance(value, Place) and not value.steps or isinstance(value, Call) and value.function[0] in BRANCH:
+            value = self.single.get((value if isinstance(value, Place) else value.arguments[0]).local)
+        info = self.source.find(value.function[0]) if isinstance(value, Call) else None
+        return info is not None and "u64" in re.findall(r"\w+", info.result or "") and "usize" not in info.result
+
+    def part_of_variant(self, one, of, tag, order, whole):
         kind, shown = self.types.kind(of), of
         if of[0] == "Named" and of[1] == "core::ops::ControlFlow":
             shown = self.types.same_as(of)
@@ -261,13 +292,13 @@ class Body:
         if kind.kind == "option":
             if tag != kind.parts[1]:
                 return None, inner
-            return self.payload(one, kind.parts[3], inner), inner
+            return self.payload(one, kind.parts[3], inner, whole), inner
         if kind.kind == "nullable" or kind.kind == "status":
             return one, inner
         if kind.kind in ("outcome", "either"):
-            return self.payload(one, "error" if tag else "value", inner), inner
+            return self.payload(one, "error" if tag else "value", inner, whole), inner
         if kind.kind == "tagged":
-            return self.payload(one, self.types.part_name(shown, tag, order - 1), inner), inner
+            return self.payload(one, self.types.part_name(shown, tag, order - 1), inner, whole), inner
         raise Unknown(f"a part of a variant of {of}")
 
     # Values.
@@ -291,7 +322,7 @@ class Body:
         return self.library.with_names(one, of) if isinstance(one, c.Literal) else one
 
     def address(self, place):
-        one, of = self.walk(self.start(place.local), self.tree.locals[place.local], place.steps)
+        one, of = self.place(place)
         if isinstance(one, ArrayAt):
             return one.pointer
         if one is None:
@@ -449,9 +480,6 @@ class Body:
         one = self.start(0)
         return self.library.slice_of(one) if isinstance(one, Pair) else one
 
-    def place(self, place):
-        return self.walk(self.start(place.local), self.tree.locals[place.local], place.steps)
-
     def assign(self, place, value):
         to, of = self.place(place)
         if to is None:
@@ -466,7 +494,11 @@ class Body:
         if isinstance(value, Aggregate) and of[0] == "Array":
             start = to.pointer if isinstance(to, ArrayAt) else c.Field(to, "bytes", c.Pointer(self.types.c(of[1])))
             return [c.Set(c.Index(start, c.Literal(order, c.Number(64, c.SIZE))), self.operand(one)) for order, one in enumerate(value.parts)]
-        return self.set(to, self.value(value, of))
+        made = self.value(value, of)
+        if isinstance(value, Place) and not value.steps and all(isinstance(one, c.Var) and isinstance(one.of, c.Number) and one.of.width for one in (to, made)):
+            self.copies.append(c.Set(to, made))
+            return [self.copies[-1]]
+        return self.set(to, made)
 
     def set(self, to, value):
         """The statements that put a value into a place."""
@@ -510,7 +542,7 @@ class Body:
         most = max(found, key=found.count, default=None)
         if most is None or 2 * found.count(most) <= len(parts):
             return None
-        return most if self.walk(self.start(most.local), self.tree.locals[most.local], most.steps)[1] == of else None
+        return most if self.place(most)[1] == of else None
 
     def filled(self, to, value):
         item = self.operand(value.item)

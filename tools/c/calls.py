@@ -167,6 +167,11 @@ NUMBERS = [
         Number("DESIGN_WARE_INTERRUPT", 151, "an interrupt of the UART does not end",
             note="busy detect, or a reception timeout without data, does not end"),
     ]),
+    Numbers("time_error", "Why there is no such time.", [
+        Number("TIME_NOTHING_LEFT", 170, "time: nothing is left for a handler", note="a handler is too late, however early it begins"),
+        Number("TIME_NO_LIMIT", 171, "time: a look takes no time", note="a look takes no time, so no limit is long enough"),
+        Number("TIME_OUT_OF_RANGE", 172, "time: it does not fit into 64 bits"),
+    ]),
 ]
 
 # The data, in the order of the header.
@@ -358,7 +363,13 @@ VALUES = [
     Value("struct u16550_received *received, size_t len", "uart_array(received, len, sizeof(struct u16550_received), 1)", "received, len"),
 ]
 
-# The functions. A `Call` is one call of the proved code, `uart_NAME` of driver or rings; its guards come of what it takes.
+# What calls of a configuration return: one that needs a divisor, one that perhaps has nothing to return even so, and one that needs none.
+BY_DIVISOR = {"error": "InvalidDivisorError", "outcome": "struct uart_u64_or_invalid_divisor_error"}
+PERHAPS = {"error": "InvalidDivisorError", "outcome": "struct uart_maybe_u64_or_invalid_divisor_error"}
+CONVERTED = {"none": "TIME_OUT_OF_RANGE", "outcome": "struct uart_maybe_u64"}
+
+# The functions. A `Call` is one call of the proved code, `uart_NAME` of driver or rings, or of a configuration if it takes that first; its
+# guards come of what it takes.
 SECTIONS = [
     Section("numbers and the version as texts", "", [
         Group("Returns a text for what a function returned, for a log. Never null.", [
@@ -450,6 +461,57 @@ bytes that do not fit are lost, and nothing tells. Some chips hold more than 16 
 u16550_enable_64_byte_fifos. u16550_find_fifo_size finds the size of FIFOs as they are set up.""", [
             Call("fifo_size", "struct u16550 *uart, uint16_t *fifo_size", gives="fifo_size", encode="fifo_size"),
             Call("set_fifo_size", "struct u16550 *uart, uint16_t fifo_size"),
+        ]),
+    ]),
+    Section("how long things take", """
+These take a configuration and no driver, and make no access. Times are in clocks of the chip's input, of which a second has frequency: so
+nothing is rounded but by the last four calls. A configuration is refused as by u16550_set_frame; the last four need no divisor. fifo_size
+is how many characters the FIFOs hold, as for u16550_set_fifo_size.""", [
+        Group("""
+How many clocks a character takes on the line: its start bit, data bits, parity bit and stop bits, with one and a half exact.""", [
+            Call("character_clocks", "const struct u16550_config *config, uint64_t *clocks", gives="clocks", **BY_DIVISOR),
+        ]),
+        Group("""
+The most clocks that a handler may be late, so that no character is dropped without flow control: from the receiver's interrupt to the
+read of ISR, at the trigger level of the configuration. An access takes at most access_clocks, which u16550_clocks_covering has of
+nanoseconds. At a line that several ports share, those before this one are served first, for at most before_clocks; at a line of its own
+this is 0. With 0 for both it is the time until the first read of DATA. Returns U16550_TIME_NOTHING_LEFT if nothing is left, also if the
+two accesses of a byte take longer than a character.""", [
+            Call("handler_budget", "const struct u16550_config *config, uint16_t fifo_size, uint64_t access_clocks, uint64_t before_clocks, "
+                "uint64_t *clocks", gives="clocks", none="TIME_NOTHING_LEFT", **PERHAPS),
+        ]),
+        Group("""
+How many characters arrive within so many clocks at most: what a mark of flow control has to leave room for, if these pass until the other
+end holds back.""", [
+            Call("characters_in", "const struct u16550_config *config, uint64_t clocks, uint64_t *characters",
+                gives="characters", **BY_DIVISOR),
+        ]),
+        Group("""
+How many clocks a full transmitter takes to send all that it holds, the FIFO and the shift register: so long at most does a u16550_flush
+take, if the other end does not hold the chip off.""", [
+            Call("drain_clocks", "const struct u16550_config *config, uint16_t fifo_size, uint64_t *clocks", gives="clocks", **BY_DIVISOR),
+        ]),
+        Group("""
+After how many clocks the chip interrupts if fewer characters wait than the trigger level: the time of four characters.""", [
+            Call("timeout_clocks", "const struct u16550_config *config, uint64_t *clocks", gives="clocks", **BY_DIVISOR),
+        ]),
+        Group("""
+The limit for u16550_set_spin_limit with which no wait for a working transmitter gives up, if each look takes at least access_clocks, and
+the other end does not hold the chip off. u16550_clocks_within has these of nanoseconds. Returns U16550_TIME_NO_LIMIT if a look takes
+none.""", [
+            Call("spin_limit_for", "const struct u16550_config *config, uint16_t fifo_size, uint64_t access_clocks, uint64_t *limit",
+                gives="limit", none="TIME_NO_LIMIT", **PERHAPS),
+        ]),
+        Group("""
+Clocks as nanoseconds, and back. Those with 'within' round down: for a time that may be used up, and for the least that a look takes. Those
+with 'covering' round up: for a time to wait, and for the most that an access takes. They return U16550_TIME_OUT_OF_RANGE if the result does
+not fit into 64 bits.""", [
+            Call("nanoseconds_within", "const struct u16550_config *config, uint64_t clocks, uint64_t *nanoseconds", gives="nanoseconds",
+                **CONVERTED),
+            Call("nanoseconds_covering", "const struct u16550_config *config, uint64_t clocks, uint64_t *nanoseconds", gives="nanoseconds",
+                **CONVERTED),
+            Call("clocks_within", "const struct u16550_config *config, uint64_t nanoseconds, uint64_t *clocks", gives="clocks", **CONVERTED),
+            Call("clocks_covering", "const struct u16550_config *config, uint64_t nanoseconds, uint64_t *clocks", gives="clocks", **CONVERTED),
         ]),
     ]),
     Section("setting up", "", [

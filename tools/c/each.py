@@ -1,12 +1,14 @@
 """A file of C that makes each call which is a row of the table of the interface, for tests that make all of them."""
 import calls
+from interface import of_config, of_rings
 from table import Call, Wrong
 
 TOP = """/*
- * Each call over a driver, with what it takes: those that are no more than a row of the table of the interface. What is in the layer
- * by hand is missing.
+ * Each call over a driver, and each over a configuration alone, with what it takes: those that are no more than a row of the table of the
+ * interface. What is in the layer by hand is missing.
  *
- * A test says what each word in capitals stands for, and what is done with a call of the driver and with one of its rings.
+ * A test says what each word in capitals stands for, and what is done with a call of the driver, with one of its rings, and with one of a
+ * configuration.
  *
  * Made by tools/c/emit. Do not edit.
  */
@@ -37,12 +39,17 @@ def line(call):
     words = []
     for declared in call.parameters():
         words.append(word(declared, words))
-    if words[0] != "DRIVER" or len(set(words)) != len(words):
+    if words[0] != ("CONFIG" if of_config(call) else "DRIVER") or len(set(words)) != len(words):
         raise Wrong(f"{call.name}: a test cannot tell its parameters apart: {' '.join(words)}")
-    return f"    {'RING' if call.name.startswith('ring_') else 'PLAIN'}(u16550_{call.name}, {', '.join(words)})"
+    return f"    {'OF_CONFIG' if of_config(call) else 'RING' if of_rings(call) else 'PLAIN'}(u16550_{call.name}, {', '.join(words)})"
+
+
+def macro(head, rows):
+    rows = [f"#define {head}", *map(line, rows)]
+    return " \\\n".join(row.ljust(WIDTH) for row in rows[:-1]) + " \\\n" + rows[-1] + "\n"
 
 
 def text():
-    rows = [line(one) for section in calls.SECTIONS for group in section.groups for one in group.calls if isinstance(one, Call)]
-    rows = ["#define EACH_CALL(PLAIN, RING)", *rows]
-    return TOP + " \\\n".join(row.ljust(WIDTH) for row in rows[:-1]) + " \\\n" + rows[-1] + "\n"
+    rows = [one for section in calls.SECTIONS for group in section.groups for one in group.calls if isinstance(one, Call)]
+    over_driver, over_config = ([one for one in rows if of_config(one) == wanted] for wanted in (False, True))
+    return TOP + macro("EACH_CALL(PLAIN, RING)", over_driver) + "\n" + macro("EACH_OF_CONFIG(OF_CONFIG)", over_config)

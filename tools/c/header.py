@@ -106,7 +106,7 @@ def filled(template, number, convention, kept="", proved=lambda call: ""):
 def of_c(template, number, kept, proved):
     """The header of the C. `kept` are the types that a driver is made of, and `proved` the words on a function, by its name."""
     def told(call):
-        lines = proved.get(call.name) or []
+        lines = proved.get(call.name) or proved.get(f"config_{call.name}") or []
         return comment("\n".join(lines)) if lines else ""
     return LICENCE + filled(template, number, "", kept, told)
 

@@ -144,7 +144,8 @@ def usable(call, name):
 def values(call):
     """What of the table of values a function takes: those that count, in the order of their tests, and what the proved function gets."""
     taken, passed = [], []
-    for order, parameter in enumerate(call.parameters()[1:], 1):
+    of_driver = 0 if of_config(call) else 1
+    for order, parameter in enumerate(call.parameters()[of_driver:], of_driver):
         both = ", ".join(call.parameters()[order:order + 2])
         rule = next((one for one in calls.VALUES if one.parameter in (parameter, both) or parameter == one.parameter), None)
         name = re.sub(r".*[ *]", "", parameter)
@@ -215,6 +216,17 @@ def of_rings(call):
     return call.name.startswith("ring_")
 
 
+def of_config(call):
+    """Whether a call is over a configuration alone, and over no driver."""
+    return call.parameters()[0] == "const struct u16550_config *config"
+
+
+def in_turn(tests):
+    """The lines that set the status by each test that follows on none that failed."""
+    first, *others = tests
+    return [f"    status = {first};", *(line for one in others for line in ("    if (status == U16550_OK)", f"        status = {one};"))]
+
+
 def entered(call, written):
     """The tests of the pointers that are written to, and the entry."""
     enter = "uart_enter_rings(uart)" if of_rings(call) else "uart_enter(uart)"
@@ -231,14 +243,30 @@ def entered(call, written):
 
 def function(call):
     taken, passed = values(call)
+    if of_config(call):
+        return written_out(call, lines_of_config(call, taken, passed))
     does, returned, written = body(call, passed)
     lines = [f"    {one};" for one in locals_of(call, taken)] + entered(call, written)
-    for order, rule in enumerate(taken):
-        lines += [f"    status = {rule.test};"] if order == 0 else ["    if (status == U16550_OK)", f"        status = {rule.test};"]
     if taken:
-        lines += ["    if (status != U16550_OK)", "        return uart_leave(uart, status);"]
-    lines += [f"    {one}" for one in does] + ended(call, returned, written)
+        lines += [*in_turn([rule.test for rule in taken]), "    if (status != U16550_OK)", "        return uart_leave(uart, status);"]
+    return written_out(call, lines + [f"    {one}" for one in does] + ended(call, returned, written))
+
+
+def written_out(call, lines):
     return "\n".join([*c.wrapped(f"int u16550_{call.name}({call.takes})"), "{", *lines, "}", ""])
+
+
+def lines_of_config(call, taken, passed):
+    """What a function over a configuration does. There is nothing to enter and to leave."""
+    tests, value = [], "found"
+    if call.error:
+        tests, value = [f"uart_status_of_{snake(call.error)}(&{value}.error)"], f"{value}.value"
+    if call.none:
+        tests, value = [*tests, f"uart_unless({value}.is_some, {number(call.none)})"], f"{value}.value"
+    first, *others = in_turn([usable(call, call.gives), *(rule.test for rule in taken)])
+    lines = [f"    {one};" for one in locals_of(call, taken)] + [f"    int {first.lstrip()}", *others]
+    lines += ["    if (status != U16550_OK)", "        return status;", f"    found = uart_config_{call.name}(&{', '.join(passed)});", *in_turn(tests)]
+    return [*lines, "    if (status == U16550_OK)", f"        *{call.gives} = {value};", "    return status;"]
 
 
 def ended(call, returned, written):

@@ -535,7 +535,9 @@ class Library:
         return c.Literal(literal.value, literal.of, tuple(f"{self.prefix}_{register}_{name}" for name in names))
 
     def size_of(self, item):
-        """How many bytes a struct of bytes has."""
+        """How many bytes a number has in the MIR, or a struct of bytes."""
+        if isinstance(item, c.Number):
+            return item.bits // 8
         of = next((of for of, name in self.types.public.items() if item.text() == f"struct {name}"), None)
         if of is None:
             return None
@@ -596,8 +598,9 @@ class Library:
                         {**dict(fields), **{field: order for order, (field, _) in enumerate(variable)}})
 
     def maker_name(self, of, kind, tag, name):
-        bare = re.sub(r"^(uart|u16550_core|u16550)_(maybe_)?", "", name)
+        bare = re.sub(r"^(uart|u16550_core|u16550)_", "", name)
         if kind.kind == "option":
+            bare = bare.removeprefix("maybe_")
             is_full = tag == kind.parts[1]
             if kind.parts[2] == "is_error":
                 return f"uart_{'failed' if is_full else 'no'}_{bare}"

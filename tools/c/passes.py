@@ -178,6 +178,30 @@ def ended(statements, label, rest, outer, is_end=True):
     return out
 
 
+def with_returns(statements):
+    """The same, where each exit of the last block returns, if a variable that is returned is all that is behind it: as of a `match` with several
+    conditions."""
+    order = max((order for order, one in enumerate(statements) if isinstance(one, c.Block)), default=len(statements))
+    rest = statements[order + 1:]
+    if not (1 <= len(rest) <= 2 and isinstance(rest[-1], c.Return) and all(isinstance(one, c.Set) for one in rest[:-1])):
+        return statements
+    block = statements[order]
+
+    def returning(body):
+        out = []
+        for one in body:
+            if isinstance(one, c.Exit) and one.label == block.label:
+                return [*out, *(c.Set(each.to, each.value) for each in rest[:-1]), c.Return(rest[-1].value)]
+            if isinstance(one, (c.If, c.Switch)):
+                one = with_branches(one, list(map(returning, branches(one))))
+            elif isinstance(one, (c.Block, c.Loop)):
+                one = type(one)(one.label, returning(one.body))
+            out.append(one)
+        return out
+
+    return [*statements[:order], *returning(block.body), *rest]
+
+
 def with_joined_cases(one):
     """The same, with one case for those that only set a variable to the same constant."""
     if isinstance(one, c.If):
@@ -1111,10 +1135,18 @@ def run(statements, result, with_names):
     try:
         statements = structured(statements)
     except Unknown:
-        statements = [with_joined_cases(one) for one in structured(with_short_rests(statements))]
+        statements = [with_joined_cases(one) for one in structured_otherwise(statements)]
     statements = refined(statements, with_names)
     settle(statements, result)
     return statements
+
+
+def structured_otherwise(statements):
+    """Blocks and their exits, where they do not become branches as they are."""
+    try:
+        return structured(with_short_rests(statements))
+    except Unknown:
+        return structured(with_returns(statements))
 
 
 def refined(statements, with_names):

@@ -82,7 +82,8 @@ class Value:
 
 @dataclasses.dataclass(frozen=True)
 class Call:
-    """A function of the header that makes one call of the proved code. `gives` is the parameter that what it returns is written to."""
+    """A function of the header that makes one call of the proved code: over a driver, or over a configuration alone if it takes that first.
+    `gives` is the parameter that what it returns is written to."""
     name: str
     takes: str
     gives: str = ""

@@ -199,6 +199,13 @@ enum u16550_design_ware_fault {
     U16550_DESIGN_WARE_INTERRUPT = 151 /* busy detect, or a reception timeout without data, does not end */
 };
 
+/* Why there is no such time. */
+enum u16550_time_error {
+    U16550_TIME_NOTHING_LEFT = 170, /* a handler is too late, however early it begins */
+    U16550_TIME_NO_LIMIT = 171,   /* a look takes no time, so no limit is long enough */
+    U16550_TIME_OUT_OF_RANGE = 172
+};
+
 /*
  * The library calls this in a panic. The program defines it; it must not return, throw or jump back into the library. No
  * call of the library is known to panic, so a panic is a defect of the library: stop the machine, or end the program.
@@ -548,6 +555,59 @@ int U16550_CALL u16550_set_spin_limit(struct u16550 *uart, uint64_t limit);
  */
 int U16550_CALL u16550_fifo_size(struct u16550 *uart, uint16_t *fifo_size);
 int U16550_CALL u16550_set_fifo_size(struct u16550 *uart, uint16_t fifo_size);
+
+/* --------------------------------------------------------------- how long things take
+ *
+ * These take a configuration and no driver, and make no access. Times are in clocks of the chip's input, of which a second has frequency: so
+ * nothing is rounded but by the last four calls. A configuration is refused as by u16550_set_frame; the last four need no divisor. fifo_size
+ * is how many characters the FIFOs hold, as for u16550_set_fifo_size.
+ */
+
+/* How many clocks a character takes on the line: its start bit, data bits, parity bit and stop bits, with one and a half exact. */
+int U16550_CALL u16550_character_clocks(const struct u16550_config *config, uint64_t *clocks);
+
+/*
+ * The most clocks that a handler may be late, so that no character is dropped without flow control: from the receiver's interrupt to the
+ * read of ISR, at the trigger level of the configuration. An access takes at most access_clocks, which u16550_clocks_covering has of
+ * nanoseconds. At a line that several ports share, those before this one are served first, for at most before_clocks; at a line of its own
+ * this is 0. With 0 for both it is the time until the first read of DATA. Returns U16550_TIME_NOTHING_LEFT if nothing is left, also if the
+ * two accesses of a byte take longer than a character.
+ */
+int U16550_CALL u16550_handler_budget(const struct u16550_config *config, uint16_t fifo_size, uint64_t access_clocks,
+                                      uint64_t before_clocks, uint64_t *clocks);
+
+/*
+ * How many characters arrive within so many clocks at most: what a mark of flow control has to leave room for, if these pass until the other
+ * end holds back.
+ */
+int U16550_CALL u16550_characters_in(const struct u16550_config *config, uint64_t clocks, uint64_t *characters);
+
+/*
+ * How many clocks a full transmitter takes to send all that it holds, the FIFO and the shift register: so long at most does a u16550_flush
+ * take, if the other end does not hold the chip off.
+ */
+int U16550_CALL u16550_drain_clocks(const struct u16550_config *config, uint16_t fifo_size, uint64_t *clocks);
+
+/* After how many clocks the chip interrupts if fewer characters wait than the trigger level: the time of four characters. */
+int U16550_CALL u16550_timeout_clocks(const struct u16550_config *config, uint64_t *clocks);
+
+/*
+ * The limit for u16550_set_spin_limit with which no wait for a working transmitter gives up, if each look takes at least access_clocks, and
+ * the other end does not hold the chip off. u16550_clocks_within has these of nanoseconds. Returns U16550_TIME_NO_LIMIT if a look takes
+ * none.
+ */
+int U16550_CALL u16550_spin_limit_for(const struct u16550_config *config, uint16_t fifo_size, uint64_t access_clocks,
+                                      uint64_t *limit);
+
+/*
+ * Clocks as nanoseconds, and back. Those with 'within' round down: for a time that may be used up, and for the least that a look takes. Those
+ * with 'covering' round up: for a time to wait, and for the most that an access takes. They return U16550_TIME_OUT_OF_RANGE if the result does
+ * not fit into 64 bits.
+ */
+int U16550_CALL u16550_nanoseconds_within(const struct u16550_config *config, uint64_t clocks, uint64_t *nanoseconds);
+int U16550_CALL u16550_nanoseconds_covering(const struct u16550_config *config, uint64_t clocks, uint64_t *nanoseconds);
+int U16550_CALL u16550_clocks_within(const struct u16550_config *config, uint64_t nanoseconds, uint64_t *clocks);
+int U16550_CALL u16550_clocks_covering(const struct u16550_config *config, uint64_t nanoseconds, uint64_t *clocks);
 
 /* --------------------------------------------------------------- setting up */
 

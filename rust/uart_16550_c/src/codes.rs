@@ -72,10 +72,13 @@ pub enum Failure {
     BusNotSending = 161,
     DesignWareLineControl = 150,
     DesignWareInterrupt = 151,
+    TimeNothingLeft = 170,
+    TimeNoLimit = 171,
+    TimeOutOfRange = 172,
 }
 
 impl Failure {
-    pub const ALL: [Self; 61] = [
+    pub const ALL: [Self; 64] = [
         Self::NullPointer,
         Self::Misaligned,
         Self::NotMade,
@@ -137,6 +140,9 @@ impl Failure {
         Self::BusNotSending,
         Self::DesignWareLineControl,
         Self::DesignWareInterrupt,
+        Self::TimeNothingLeft,
+        Self::TimeNoLimit,
+        Self::TimeOutOfRange,
     ];
 
     pub const fn text(self) -> &'static CStr {
@@ -204,6 +210,9 @@ impl Failure {
             Self::BusNotSending => c"the direction is not to send",
             Self::DesignWareLineControl => c"the UART stayed busy, and ignored LCR",
             Self::DesignWareInterrupt => c"an interrupt of the UART does not end",
+            Self::TimeNothingLeft => c"time: nothing is left for a handler",
+            Self::TimeNoLimit => c"time: a look takes no time",
+            Self::TimeOutOfRange => c"time: it does not fit into 64 bits",
         }
     }
 }

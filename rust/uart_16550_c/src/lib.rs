@@ -21,6 +21,7 @@ mod registers;
 mod rings;
 mod settings;
 mod status;
+mod times;
 mod unwinding;
 mod wide;
 

@@ -483,6 +483,198 @@ static void nearest(void)
     MISUSE(u16550_nearest(&config, 20, NULL), U16550_NULL_POINTER);
 }
 
+/* The slowest line: a character of twelve bits at divisor 62,500 and factor 15 takes 192,000,000 clocks. */
+static void slowest(void)
+{
+    config.frequency = 16000000;
+    config.baud_rate = 1;
+    config.has_prescaler = 1;
+    config.prescaler_division_factor = 15;
+    config.parity = U16550_PARITY_ODD;
+    config.extra_stop_bits = 1;
+}
+
+/* How long characters take, in clocks. At 9600 baud a bit has 12 times 16. */
+static void clocks(void)
+{
+    uint64_t found;
+    anew();
+    OK(u16550_character_clocks(&config, &found));
+    IS(found, 1920);
+    OK(u16550_timeout_clocks(&config, &found));
+    IS(found, 4 * 1920);
+    OK(u16550_drain_clocks(&config, 16, &found));
+    IS(found, 17 * 1920);
+    OK(u16550_drain_clocks(&config, 256, &found));
+    IS(found, 257 * 1920);
+    OK(u16550_characters_in(&config, 0, &found));
+    IS(found, 1);
+    OK(u16550_characters_in(&config, 1919, &found));
+    IS(found, 1);
+    OK(u16550_characters_in(&config, 1920, &found));
+    IS(found, 2);
+    OK(u16550_characters_in(&config, UINT64_MAX, &found));
+    IS(found, 9607679205057059);
+    config.data_bits = 5;
+    config.extra_stop_bits = 1; /* five bits have one and a half */
+    OK(u16550_character_clocks(&config, &found));
+    IS(found, 1440);
+    config.parity = U16550_PARITY_FORCED_0;
+    OK(u16550_character_clocks(&config, &found));
+    IS(found, 1632);
+    anew();
+    slowest();
+    OK(u16550_character_clocks(&config, &found));
+    IS(found, 192000000);
+    OK(u16550_timeout_clocks(&config, &found));
+    IS(found, 768000000);
+    OK(u16550_drain_clocks(&config, 256, &found));
+    IS(found, 49344000000);
+}
+
+/* How late a handler may be. At 115200 baud a character takes 160 clocks. */
+static void budgets(void)
+{
+    uint64_t found;
+    anew();
+    config.baud_rate = 115200;
+    OK(u16550_handler_budget(&config, 16, 0, 0, &found));
+    IS(found, 3 * 160 - 1);
+    OK(u16550_handler_budget(&config, 64, 0, 0, &found));
+    IS(found, 9 * 160 - 1);
+    config.fifo_trigger_level = 8;
+    OK(u16550_handler_budget(&config, 16, 2, 0, &found));
+    IS(found, 1431);
+    OK(u16550_handler_budget(&config, 16, 2, 100, &found));
+    IS(found, 1331);
+    OK(u16550_handler_budget(&config, 16, 2, 1431, &found));
+    IS(found, 0);
+    IS(u16550_handler_budget(&config, 16, 2, 1432, &found), U16550_TIME_NOTHING_LEFT);
+    IS(u16550_handler_budget(&config, 16, 2, UINT64_MAX, &found), U16550_TIME_NOTHING_LEFT);
+    /* A byte takes two accesses. */
+    OK(u16550_handler_budget(&config, 16, 80, 0, &found));
+    IS(found, 9 * 160 - 1 - 4 * 80);
+    IS(u16550_handler_budget(&config, 16, 81, 0, &found), U16550_TIME_NOTHING_LEFT);
+    IS(u16550_handler_budget(&config, 16, UINT64_MAX, 0, &found), U16550_TIME_NOTHING_LEFT);
+    IS(found, 9 * 160 - 1 - 4 * 80);
+    config.fifo_trigger_level = 0;
+    OK(u16550_handler_budget(&config, 16, 2, 0, &found));
+    IS(found, 151);
+    slowest();
+    config.fifo_trigger_level = 1;
+    OK(u16550_handler_budget(&config, 256, 1, 0, &found));
+    IS(found, 256 * UINT64_C(192000000) - 5);
+}
+
+/* A spin limit with which no wait for a working transmitter gives up. */
+static void limits(void)
+{
+    uint64_t found = 7;
+    anew();
+    IS(u16550_spin_limit_for(&config, 16, 0, &found), U16550_TIME_NO_LIMIT);
+    IS(found, 7);
+    OK(u16550_spin_limit_for(&config, 16, 2, &found));
+    IS(found, 17 * 961);
+    OK(u16550_spin_limit_for(&config, 16, 1919, &found));
+    IS(found, 17 * 3);
+    OK(u16550_spin_limit_for(&config, 16, UINT64_MAX, &found));
+    IS(found, 17 * 2);
+    OK(u16550_set_spin_limit(&uart, found));
+    slowest();
+    OK(u16550_spin_limit_for(&config, 256, 1, &found));
+    IS(found, 257 * UINT64_C(192000001));
+}
+
+/* Clocks as nanoseconds and back, to the safe side. */
+static void nanoseconds(void)
+{
+    uint64_t found = 7;
+    anew();
+    OK(u16550_nanoseconds_within(&config, 160, &found));
+    IS(found, 86805);
+    OK(u16550_nanoseconds_covering(&config, 160, &found));
+    IS(found, 86806);
+    OK(u16550_clocks_within(&config, 1000, &found));
+    IS(found, 1);
+    OK(u16550_clocks_covering(&config, 1000, &found));
+    IS(found, 2);
+    OK(u16550_clocks_within(&config, UINT64_MAX, &found));
+    IS(found, 34001038676661445);
+    OK(u16550_clocks_covering(&config, UINT64_MAX, &found));
+    IS(found, 34001038676661446);
+    /* What is exact is rounded in neither way: 9 clocks of 1.8 MHz are five microseconds. */
+    config.frequency = 1800000;
+    OK(u16550_nanoseconds_within(&config, 9, &found));
+    IS(found, 5000);
+    OK(u16550_nanoseconds_covering(&config, 9, &found));
+    IS(found, 5000);
+    OK(u16550_clocks_within(&config, 5000, &found));
+    IS(found, 9);
+    OK(u16550_clocks_covering(&config, 5000, &found));
+    IS(found, 9);
+    IS(u16550_nanoseconds_within(&config, UINT64_MAX, &found), U16550_TIME_OUT_OF_RANGE);
+    IS(u16550_nanoseconds_covering(&config, UINT64_MAX, &found), U16550_TIME_OUT_OF_RANGE);
+    config.frequency = UINT32_MAX;
+    IS(u16550_clocks_within(&config, UINT64_MAX, &found), U16550_TIME_OUT_OF_RANGE);
+    IS(u16550_clocks_covering(&config, UINT64_MAX, &found), U16550_TIME_OUT_OF_RANGE);
+    IS(found, 9);
+}
+
+/* The calls of a configuration with these pointers and this size of FIFOs: each returns this number. */
+static void no_time(const struct u16550_config *from, uint16_t fifo_size, uint64_t *to, int wanted)
+{
+#define ACCESS_CLOCKS 1
+#define BEFORE_CLOCKS 1
+#define CLOCKS 1
+#define NANOSECONDS 1
+#define CONFIG from
+#define FIFO_SIZE fifo_size
+#define NUMBER_AT to
+#define RETURNS(name, ...) IS(name(__VA_ARGS__), wanted);
+    EACH_OF_CONFIG(RETURNS)
+#undef CONFIG
+#undef FIFO_SIZE
+#undef NUMBER_AT
+}
+
+static void no_times(void)
+{
+    uint64_t two[2] = { 7, 7 }, *found = &two[0], *crooked = (uint64_t *)(void *)((uint8_t *)two + 1);
+    uint8_t room[sizeof config + 1];
+    anew();
+    no_time(NULL, 16, found, U16550_NULL_POINTER);
+    no_time(&config, 16, NULL, U16550_NULL_POINTER);
+    no_time((const struct u16550_config *)(const void *)(room + ((uintptr_t)room % 2 == 0)), 16, found, U16550_MISALIGNED);
+    no_time(&config, 16, crooked, U16550_MISALIGNED);
+    config.frequency = 0;
+    no_time(&config, 16, found, U16550_NOT_COMPUTABLE);
+    config.frequency = 1843200;
+    config.baud_rate = 0;
+    no_time(&config, 16, found, U16550_NOT_COMPUTABLE);
+    config.baud_rate = 9600;
+    config.has_prescaler = 1;
+    config.prescaler_division_factor = 16;
+    no_time(&config, 16, found, U16550_NOT_COMPUTABLE);
+    config.has_prescaler = 2;
+    no_time(&config, 16, found, U16550_BAD_CODE);
+    config.has_prescaler = 0;
+    IS(u16550_handler_budget(&config, 17, 1, 0, found), U16550_BAD_CODE);
+    IS(u16550_drain_clocks(&config, 0, found), U16550_BAD_CODE);
+    IS(u16550_spin_limit_for(&config, 512, 1, found), U16550_BAD_CODE);
+    /* What has no divisor has no time of a character. What a clock is, it has. */
+    config.baud_rate = 7;
+    IS(u16550_character_clocks(&config, found), U16550_FRAME_NON_INTEGER_DIVISOR);
+    IS(u16550_handler_budget(&config, 16, 1, 0, found), U16550_FRAME_NON_INTEGER_DIVISOR);
+    IS(u16550_characters_in(&config, 1, found), U16550_FRAME_NON_INTEGER_DIVISOR);
+    config.baud_rate = 1;
+    IS(u16550_drain_clocks(&config, 16, found), U16550_FRAME_DIVISOR_OUT_OF_RANGE);
+    IS(u16550_timeout_clocks(&config, found), U16550_FRAME_DIVISOR_OUT_OF_RANGE);
+    IS(u16550_spin_limit_for(&config, 16, 0, found), U16550_FRAME_DIVISOR_OUT_OF_RANGE);
+    IS(two[0] + two[1], 14);
+    OK(u16550_clocks_covering(&config, 1000, found));
+    IS(*found, 2);
+}
+
 /* A new frame while the port runs. */
 static void frame(void)
 {
@@ -2539,7 +2731,8 @@ static void texts(void)
 {
     static const int known[] = {
         0, -1, -2, -3, -4, -5, -6, -7, -8, -9, -10, -11, -12, -13, 10, 11, 12, 13, 14, 20, 21, 22, 23, 30, 31, 32, 33, 34, 40, 41, 42, 50, 51,
-        60, 70, 80, 90, 91, 92, 93, 94, 100, 101, 102, 110, 111, 120, 121, 122, 130, 140, 141, 142, 143, 144, 145, 150, 151, 160, 161,
+        60, 70, 80, 90, 91, 92, 93, 94, 100, 101, 102, 110, 111, 120, 121, 122, 130, 140, 141, 142, 143, 144, 145, 150, 151, 160, 161, 170,
+        171, 172,
     };
     size_t count = sizeof known / sizeof known[0], i, j;
     for (i = 0; i < count; i++)
@@ -2565,6 +2758,11 @@ int main(void)
     loopback();
     remote();
     nearest();
+    clocks();
+    budgets();
+    limits();
+    nanoseconds();
+    no_times();
     frame();
     configured();
     setup();

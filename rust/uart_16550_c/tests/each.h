@@ -1,8 +1,9 @@
 /*
- * Each call over a driver, with what it takes: those that are no more than a row of the table of the interface. What is in the layer
- * by hand is missing.
+ * Each call over a driver, and each over a configuration alone, with what it takes: those that are no more than a row of the table of the
+ * interface. What is in the layer by hand is missing.
  *
- * A test says what each word in capitals stands for, and what is done with a call of the driver and with one of its rings.
+ * A test says what each word in capitals stands for, and what is done with a call of the driver, with one of its rings, and with one of a
+ * configuration.
  *
  * Made by tools/c/emit. Do not edit.
  */
@@ -92,3 +93,15 @@
     RING(u16550_ring_take_line, DRIVER, BYTE_AT)                                                               \
     RING(u16550_ring_take_modem, DRIVER, BYTE_AT)                                                              \
     RING(u16550_ring_config_register_dump, DRIVER, DUMP_AT)
+
+#define EACH_OF_CONFIG(OF_CONFIG)                                                                              \
+    OF_CONFIG(u16550_character_clocks, CONFIG, NUMBER_AT)                                                      \
+    OF_CONFIG(u16550_handler_budget, CONFIG, FIFO_SIZE, ACCESS_CLOCKS, BEFORE_CLOCKS, NUMBER_AT)               \
+    OF_CONFIG(u16550_characters_in, CONFIG, CLOCKS, NUMBER_AT)                                                 \
+    OF_CONFIG(u16550_drain_clocks, CONFIG, FIFO_SIZE, NUMBER_AT)                                               \
+    OF_CONFIG(u16550_timeout_clocks, CONFIG, NUMBER_AT)                                                        \
+    OF_CONFIG(u16550_spin_limit_for, CONFIG, FIFO_SIZE, ACCESS_CLOCKS, NUMBER_AT)                              \
+    OF_CONFIG(u16550_nanoseconds_within, CONFIG, CLOCKS, NUMBER_AT)                                            \
+    OF_CONFIG(u16550_nanoseconds_covering, CONFIG, CLOCKS, NUMBER_AT)                                          \
+    OF_CONFIG(u16550_clocks_within, CONFIG, NANOSECONDS, NUMBER_AT)                                            \
+    OF_CONFIG(u16550_clocks_covering, CONFIG, NANOSECONDS, NUMBER_AT)

@@ -34,6 +34,12 @@ static uint32_t any_bits(void)
     return (below(1u << 16) << 16 | below(1u << 16)) >> below(32);
 }
 
+/* A time of any length. */
+static uint64_t any_time(void)
+{
+    return ((uint64_t)any_bits() << 32 | any_bits()) >> below(64);
+}
+
 /* What a call takes and gives. */
 struct room {
     uint8_t bytes[ROOM], value, other;
@@ -190,6 +196,10 @@ static uint8_t U16550_CALL keep_waiting(void *context)
 #define DUMP_AT &r->dump
 #define URGENT_AT &r->urgent
 #define HANDLED_AT &r->handled
+#define ACCESS_CLOCKS any_time()
+#define BEFORE_CLOCKS any_time()
+#define CLOCKS any_time()
+#define NANOSECONDS any_time()
 
 /* The numbers of the calls: those of the table, and behind them the others. */
 #define NUMBER(name, ...) NUMBER_OF_##name,
@@ -285,7 +295,25 @@ static void write_any(void *context, uintptr_t address, uint8_t value)
     meanwhile();
 }
 
-/* Makes a call over no driver. */
+/* What a call over a configuration may return that gets pointers to something. */
+static int is_of_config(int status)
+{
+    switch (status) {
+    case U16550_OK:
+    case U16550_BAD_CODE:
+    case U16550_NOT_COMPUTABLE:
+    case U16550_FRAME_NON_INTEGER_DIVISOR:
+    case U16550_FRAME_DIVISOR_OUT_OF_RANGE:
+    case U16550_TIME_NOTHING_LEFT:
+    case U16550_TIME_NO_LIMIT:
+    case U16550_TIME_OUT_OF_RANGE:
+        return 1;
+    default:
+        return 0;
+    }
+}
+
+/* Makes calls over no driver. */
 static void compute(struct room *r)
 {
     uint16_t divisor;
@@ -307,6 +335,11 @@ static void compute(struct room *r)
     status = u16550_dump_baud_rate(&r->dump, &r->config, &rate);
     if (status > 0 && status != U16550_NON_INTEGER_BAUD_RATE)
         stop("the baud rate of a dump", 0, status);
+#define COMPUTE(name, ...)                     \
+    status = name(__VA_ARGS__);                \
+    if (!is_of_config(status))                 \
+        stop(#name, 0, status);
+    EACH_OF_CONFIG(COMPUTE)
 }
 
 int main(void)

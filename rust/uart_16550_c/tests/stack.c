@@ -222,6 +222,10 @@ static void call_nothing(void)
 #define DUMP_AT &dump
 #define URGENT_AT &urgent
 #define HANDLED_AT &handled
+#define ACCESS_CLOCKS 2
+#define BEFORE_CLOCKS 100
+#define CLOCKS 1000
+#define NANOSECONDS 1000
 
 /* The other calls. */
 #define OTHERS(PLAIN, RING)                                                                        \
@@ -276,6 +280,7 @@ static void call_nothing(void)
         keep(name(__VA_ARGS__));           \
     }
 EACH_CALL(WRAPPER, WRAPPER)
+EACH_OF_CONFIG(WRAPPER)
 OTHERS(WRAPPER, WRAPPER)
 OVER_BUS(WRAPPER)
 
@@ -312,6 +317,7 @@ int main(void)
 #define RING(name, ...) measure(#name, call_##name, HAS_RINGS);
 #define BUS(name, ...) measure(#name, call_##name, AT_BUS);
     EACH_CALL(PLAIN, RING)
+    EACH_OF_CONFIG(PLAIN)
     OTHERS(PLAIN, RING)
     OVER_BUS(BUS)
     measure("u16550_text", call_u16550_text, A_DRIVER);

@@ -1,6 +1,6 @@
 /*
- * The comparison where there is no library of C, in QEMU's user mode: for processors with the other byte order, and for Arm, whose accesses
- * to registers in memory are instructions of their own. CALLS and SEED are given to the compiler.
+ * The comparison where there is no library of C: for processors with the other byte order, and for Arm, whose accesses to registers in memory
+ * are instructions of their own, in QEMU's user mode; and for x86 of 32 bits. CALLS and SEED are given to the compiler.
  */
 #if defined(OF_PORT)
 #include "port.h"
@@ -32,38 +32,6 @@ static long call_system(long number, long one, long two, long three)
     return r3;
 }
 enum { WRITE = 4, EXIT = 1 };
-
-/* What a compiler calls for numbers of 64 bits on a processor of 32: one bit after the other. */
-uint64_t __udivdi3(uint64_t number, uint64_t by);
-uint64_t __umoddi3(uint64_t number, uint64_t by);
-
-static uint64_t divide(uint64_t number, uint64_t by, uint64_t *rest)
-{
-    uint64_t quotient = 0;
-    *rest = 0;
-    for (int bit = 63; bit >= 0; bit--) {
-        uint64_t over = *rest >> 63;
-        *rest = *rest << 1 | (number >> bit & 1);
-        if (over || *rest >= by) {
-            *rest -= by;
-            quotient |= (uint64_t)1 << bit;
-        }
-    }
-    return quotient;
-}
-
-uint64_t __udivdi3(uint64_t number, uint64_t by)
-{
-    uint64_t rest;
-    return divide(number, by, &rest);
-}
-
-uint64_t __umoddi3(uint64_t number, uint64_t by)
-{
-    uint64_t rest;
-    divide(number, by, &rest);
-    return rest;
-}
 #elif defined(__aarch64__)
 static long call_system(long number, long one, long two, long three)
 {
@@ -86,6 +54,49 @@ static long call_system(long number, long one, long two, long three)
     return r0;
 }
 enum { WRITE = 4, EXIT = 1 };
+#elif defined(__i386__)
+static long call_system(long number, long one, long two, long three)
+{
+    long result;
+    __asm__ volatile("int $0x80" : "=a"(result) : "a"(number), "b"(one), "c"(two), "d"(three) : "memory");
+    return result;
+}
+enum { WRITE = 4, EXIT = 1 };
+#endif
+
+#if defined(__powerpc__) || defined(__i386__)
+/* What a compiler calls for numbers of 64 bits on a processor of 32: one bit after the other. */
+uint64_t __udivmoddi4(uint64_t number, uint64_t by, uint64_t *rest);
+uint64_t __udivdi3(uint64_t number, uint64_t by);
+uint64_t __umoddi3(uint64_t number, uint64_t by);
+
+uint64_t __udivmoddi4(uint64_t number, uint64_t by, uint64_t *rest)
+{
+    uint64_t quotient = 0;
+    *rest = 0;
+    for (int bit = 63; bit >= 0; bit--) {
+        uint64_t over = *rest >> 63;
+        *rest = *rest << 1 | (number >> bit & 1);
+        if (over || *rest >= by) {
+            *rest -= by;
+            quotient |= (uint64_t)1 << bit;
+        }
+    }
+    return quotient;
+}
+
+uint64_t __udivdi3(uint64_t number, uint64_t by)
+{
+    uint64_t rest;
+    return __udivmoddi4(number, by, &rest);
+}
+
+uint64_t __umoddi3(uint64_t number, uint64_t by)
+{
+    uint64_t rest;
+    __udivmoddi4(number, by, &rest);
+    return rest;
+}
 #endif
 
 void *memcpy(void *to, const void *from, size_t len);
@@ -125,6 +136,8 @@ void begin(void)
 __asm__(".globl _start\n_start: aghi %r15,-160\nbrasl %r14,begin\n");
 #elif defined(__powerpc__)
 __asm__(".globl _start\n_start: stwu 1,-64(1)\nbl begin\n");
+#elif defined(__i386__)
+__asm__(".globl _start\n_start: call begin\n");
 #elif defined(__aarch64__) || defined(__arm__)
 __asm__(".globl _start\n_start: bl begin\n");
 #endif

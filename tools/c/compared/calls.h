@@ -325,12 +325,14 @@ static uintptr_t some_base(void)
 
 static void new_in_memory(struct u16550 *u, int is_design_ware)
 {
+    /* That of registers where none can be: a bus that was not ended may still have the other one. */
+    static struct u16550_design_ware nowhere;
     struct u16550_layout made = some_layout();
     uintptr_t base = some_base();
     uint64_t patience = below(20) ? 1 + below(6) : 0;
     int status;
     if (is_design_ware)
-        status = told(u16550_new_mmio_design_ware(u, OUT(&chips[0]), base, OUT(&made), patience));
+        status = told(u16550_new_mmio_design_ware(u, OUT(base == (uintptr_t)words ? &chips[0] : &nowhere), base, OUT(&made), patience));
     else
         status = told(u16550_new_mmio_wide(u, base, OUT(&made)));
     if (status != U16550_OK)
@@ -525,7 +527,7 @@ static void call_settings(struct u16550 *u, uint32_t which)
     default:
         if (told(u16550_default_config(OUT(&config))) == U16550_OK)
             note_config(&config);
-        note_bytes((const uint8_t *)u16550_text((int)below(190) - 20), 4);
+        note_bytes((const uint8_t *)u16550_text((int)below(200) - 20), 4);
         note_bytes((const uint8_t *)u16550_version(), sizeof U16550_VERSION);
         break;
     }
@@ -869,6 +871,53 @@ static void call_rings(struct u16550 *u, uint32_t which)
     note_bytes(bytes, len);
 }
 
+/* ---- how long things take: what each call of a configuration takes and gives */
+
+#define CONFIG OUT(&config)
+#define FIFO_SIZE fifo_size
+#define ACCESS_CLOCKS access
+#define BEFORE_CLOCKS time
+#define CLOCKS time
+#define NANOSECONDS time
+#define NUMBER_AT OUT(&found)
+
+/* A time: mostly short, or of any length, or one to which nothing can be added. Of one the nanoseconds just do not fit at 1843200 Hz. */
+static uint64_t some_time(void)
+{
+    uint64_t bits = choose();
+    switch (below(8)) {
+    case 0:
+        return UINT64_MAX - below(1000);
+    case 1:
+        return UINT64_C(34001038676661446);
+    case 2:
+    case 3:
+        return bits >> below(64);
+    default:
+        return below(2000);
+    }
+}
+
+static void compute(uint32_t which)
+{
+    struct u16550_config config = some_config(), other = some_config();
+    uint64_t time = some_time(), access = some_time(), found = 88;
+    uint16_t fifo_size = some_fifo_size();
+    config.fifo_trigger_level = other.fifo_trigger_level;
+    config.data_bits = other.data_bits;
+    config.extra_stop_bits = other.extra_stop_bits;
+    config.parity = other.parity;
+    /* The slowest line: what a large FIFO holds takes more clocks than 32 bits can count. */
+    if (below(8) == 0) {
+        config.frequency = 16000000;
+        config.baud_rate = 1;
+        config.has_prescaler = 1;
+        config.prescaler_division_factor = 15;
+    }
+    EACH_OF_CONFIG(MAKE)
+    note(found);
+}
+
 /* ---- a driver at a bus of two wires */
 
 static struct u16550_bus bus;
@@ -948,13 +997,14 @@ static void use_bus(struct u16550 *u)
 }
 
 /* How often each call was made. */
-static uint32_t times[6][32];
+static uint32_t times[7][32];
+enum { OF_CONFIG = 0 EACH_OF_CONFIG(ONE_MORE) };
 
 static void call(struct u16550 *u)
 {
-    static const uint32_t kinds[24] = { 0, 0, 1, 1, 1, 1, 1, 1, 1, 1, 2, 2, 2, 2, 3, 3, 3, 3, 3, 3, 3, 3, 4, 5 };
-    uint32_t kind = kinds[below(24)];
-    uint32_t which = below(kind == 0 ? 21 : kind == 1 ? 22 : kind == 2 ? 15 : kind == 3 ? 25 : kind == 5 || below(4) ? 1 : 11);
+    static const uint32_t kinds[26] = { 0, 0, 1, 1, 1, 1, 1, 1, 1, 1, 2, 2, 2, 2, 3, 3, 3, 3, 3, 3, 3, 3, 4, 5, 6, 6 };
+    uint32_t kind = kinds[below(26)];
+    uint32_t which = below(kind == 0 ? 21 : kind == 1 ? 22 : kind == 2 ? 15 : kind == 3 ? 25 : kind == 6 ? OF_CONFIG : kind == 5 || below(4) ? 1 : 11);
     times[kind][which]++;
     is_null = below(50) == 0;
     if (below(200) == 0)
@@ -975,6 +1025,9 @@ static void call(struct u16550 *u)
         break;
     case 5:
         use_bus(u);
+        break;
+    case 6:
+        compute(which);
         break;
     default:
         if (which == 0)
@@ -1008,7 +1061,7 @@ static void meanwhile(void)
 /* Makes so many calls. Prints the hash after each thousand, and in the end how many calls were never made. */
 static void compare(uint64_t seed, uint32_t total)
 {
-    static const uint32_t counts[6] = { 21, 22, 15, 25, 11, 1 };
+    static const uint32_t counts[7] = { 21, 22, 15, 25, 11, 1, OF_CONFIG };
     uint32_t never = 0;
     choices = seed;
     hash = 1;
@@ -1032,7 +1085,7 @@ static void compare(uint64_t seed, uint32_t total)
             print_number(hash, 16, "\n");
         }
     }
-    for (uint32_t kind = 0; kind < 6; kind++) {
+    for (uint32_t kind = 0; kind < 7; kind++) {
         for (uint32_t which = 0; which < counts[kind]; which++)
             never += times[kind][which] == 0;
     }
