@@ -607,7 +607,7 @@ class Body:
             error = kind.parts[-1] if kind.kind == "outcome" else kind.parts[0]
             shown = one if kind.kind == "status" else c.Field(one, "error", self.types.c(error))
             return [self.two_ways(self.library.is_error(shown, error), cases, 1, labels)]
-        number = one if kind.kind == "enum" else c.Field(one, "kind", c.Named(f"enum {self.types.plain_name(of)}_kind"))
+        number = one if kind.kind == "enum" else c.Field(one, "kind", self.types.tag(of))
         named = [(None if numbers is None else [c.Word(self.types.constant(of, n), number.of) for n in numbers], self.list(body, labels))
                  for numbers, body in cases]
         return [self.choice(number, named)]

@@ -61,6 +61,7 @@ def codes(enums):
     for row in calls.CODES:
         name = snake(row.of)
         kind, members = enums.complete(name, row.numbers)
+        kind = "uint8_t" if kind.startswith("enum u16550_core_") else kind
         shown = {variant: number(code) if isinstance(code, str) else str(code) for variant, code in row.numbers.items()}
         if row.given:
             cases = [(shown[variant], [f"*to = {member};", "return U16550_OK;"]) for member, variant in members]

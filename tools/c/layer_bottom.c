@@ -161,6 +161,11 @@ static int uart_decode_urgent(const uint8_t *from, struct u16550_core_maybe_u8 *
 
 /* --------------------------------------------------------------- making and ending a driver */
 
+int u16550_check_layout(uint32_t first, uint32_t second, uint32_t third)
+{
+    return uart_unless(first == U16550_LAYOUT && second == U16550_LAYOUT && third == U16550_LAYOUT, U16550_OTHER_LAYOUT);
+}
+
 /* Refuses functions that are not there. */
 static int uart_check_io(const struct u16550_io *io)
 {
@@ -224,22 +229,22 @@ static int uart_check_place(uintptr_t base, uint8_t stride)
     return uart_if(base > UINTPTR_MAX - (uintptr_t)UART_SPR * stride, U16550_BAD_BASE);
 }
 
-int u16550_new(struct u16550 *uart, const struct u16550_io *io)
+int (u16550_new)(struct u16550 *uart, const struct u16550_io *io)
 {
     return uart_make(uart, io, 0, 1, U16550_OK);
 }
 
-int u16550_new_port(struct u16550 *uart, const struct u16550_io *io, uint16_t base)
+int (u16550_new_port)(struct u16550 *uart, const struct u16550_io *io, uint16_t base)
 {
     return uart_make(uart, io, base, 1, uart_if(base > UINT16_MAX - UART_SPR, U16550_BAD_BASE));
 }
 
-int u16550_new_mmio(struct u16550 *uart, const struct u16550_io *io, uintptr_t base, uint8_t stride)
+int (u16550_new_mmio)(struct u16550 *uart, const struct u16550_io *io, uintptr_t base, uint8_t stride)
 {
     return uart_make(uart, io, base, stride, uart_check_place(base, stride));
 }
 
-int u16550_from_state(struct u16550 *uart, const struct u16550_io *io, const struct u16550_state *state)
+int (u16550_from_state)(struct u16550 *uart, const struct u16550_io *io, const struct u16550_state *state)
 {
     struct uart_driver_state decoded;
     int status = uart_check_memory(uart);
