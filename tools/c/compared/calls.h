@@ -6,7 +6,7 @@
 #include "u16550.h"
 
 #include "choices.h"
-#include "../../../rust/uart_16550_c/tests/each.h"
+#include "each.h"
 
 /* Now and then a call gets null for what it is to write. */
 static int is_null;
