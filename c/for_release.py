@@ -22,6 +22,9 @@ import tomllib
 TOP = pathlib.Path(__file__).resolve().parent.parent
 # What is beside the files of this folder. Links of its pages lead to what is in the archive, or out of it, into the repository.
 BESIDE = {"LICENSE-APACHE": "LICENSE-APACHE", "LICENSE-MIT": "LICENSE-MIT", "C.md": "docs/C.md"}
+# What `make check` runs.
+BESIDE |= {f"check/{one}": f"tools/c/compared/{one}" for one in
+           ("hosted.c", "choices.h", "calls.h", "console.h", "console_config.h", "port.h")} | {"check/each.h": "rust/uart_16550_c/tests/each.h"}
 NOT_SHIPPED = {"for_release.py"}
 CHANGES = "CHANGELOG.md"
 # The host of an address that nobody has: https://www.rfc-editor.org/rfc/rfc2606

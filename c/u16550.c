@@ -148,12 +148,12 @@ struct uart_bool_or_fifo_size_error {
 
 struct uart_fifo_size_or_fifo_size_error {
     struct uart_fifo_size_error error;
-    enum u16550_core_fifo_size value;
+    uint8_t value; /* an enum u16550_core_fifo_size */
 };
 
 struct uart_maybe_fifo_size {
     bool is_some;
-    enum u16550_core_fifo_size value;
+    uint8_t value; /* an enum u16550_core_fifo_size */
 };
 
 struct uart_maybe_stalled_error {
@@ -168,7 +168,7 @@ struct uart_maybe_stalled_error {
 struct uart_driver_state {
     struct u16550_core_config config;
     bool fifo_enabled;
-    enum u16550_core_fifo_size fifo_size;
+    uint8_t fifo_size; /* an enum u16550_core_fifo_size */
     uint8_t saved_lsr;
     uint8_t saved_msr;
     uint64_t spin_limit;
@@ -387,7 +387,7 @@ struct uart_handled {
 
 struct uart_maybe_interrupt_type {
     bool is_some;
-    enum u16550_core_interrupt_type value;
+    uint8_t value; /* an enum u16550_core_interrupt_type */
 };
 
 struct uart_handled_or_stuck_error {
@@ -761,7 +761,7 @@ uart_bad_fifo_size_or_fifo_size_error(struct uart_fifo_size_error error)
 }
 
 static inline struct u16550_core_maybe_fifo_trigger_level
-uart_some_fifo_trigger_level(enum u16550_core_fifo_trigger_level value)
+uart_some_fifo_trigger_level(uint8_t value)
 {
     struct u16550_core_maybe_fifo_trigger_level made = { true, value };
     return made;
@@ -792,14 +792,14 @@ static inline struct uart_maybe_fifo_size uart_no_fifo_size(void)
     return made;
 }
 
-static inline struct uart_maybe_fifo_size uart_some_fifo_size(enum u16550_core_fifo_size value)
+static inline struct uart_maybe_fifo_size uart_some_fifo_size(uint8_t value)
 {
     struct uart_maybe_fifo_size made = { true, value };
     return made;
 }
 
 static inline struct uart_fifo_size_or_fifo_size_error
-uart_good_fifo_size_or_fifo_size_error(enum u16550_core_fifo_size value)
+uart_good_fifo_size_or_fifo_size_error(uint8_t value)
 {
     struct uart_fifo_size_or_fifo_size_error made = { { UART_FIFO_SIZE_ERROR_NONE, 0 }, value };
     return made;
@@ -1007,8 +1007,7 @@ static inline struct uart_maybe_lsr uart_some_lsr(uint8_t value)
     return made;
 }
 
-static inline struct u16550_core_maybe_design_ware_fault
-uart_some_design_ware_fault(enum u16550_core_design_ware_fault value)
+static inline struct u16550_core_maybe_design_ware_fault uart_some_design_ware_fault(uint8_t value)
 {
     struct u16550_core_maybe_design_ware_fault made = { true, value };
     return made;
@@ -1083,8 +1082,7 @@ static inline struct uart_u64_or_unnoted_error uart_good_u64_or_unnoted_error(ui
     return made;
 }
 
-static inline struct uart_maybe_interrupt_type
-uart_some_interrupt_type(enum u16550_core_interrupt_type value)
+static inline struct uart_maybe_interrupt_type uart_some_interrupt_type(uint8_t value)
 {
     struct uart_maybe_interrupt_type made = { true, value };
     return made;
@@ -1118,8 +1116,7 @@ static inline struct u16550_core_maybe_stuck_error uart_no_stuck_error(void)
     return made;
 }
 
-static inline struct u16550_core_stuck_error
-uart_stuck_error_pending(enum u16550_core_interrupt_type pending)
+static inline struct u16550_core_stuck_error uart_stuck_error_pending(uint8_t pending)
 {
     struct u16550_core_stuck_error made = { U16550_CORE_STUCK_ERROR_PENDING, 0, pending };
     return made;
@@ -1629,7 +1626,7 @@ static struct uart_maybe_u16 uart_configured_divisor(const struct u16550_core_dr
  *
  * Proved: the two bits from the lowest on are the code of this word length.
  */
-static uint8_t uart_word_length_to_raw_bits(enum u16550_core_word_length word_length)
+static uint8_t uart_word_length_to_raw_bits(uint8_t word_length)
 {
     switch (word_length) {
     case U16550_CORE_WORD_LENGTH_FIVE_BITS:
@@ -1650,7 +1647,7 @@ static uint8_t uart_word_length_to_raw_bits(enum u16550_core_word_length word_le
  * Proved: the two bits from the lowest on are the code of this word length.
  * Proved: the eight bits are the same in both values, except those of a field.
  */
-static inline uint8_t uart_lcr_set_word_length(uint8_t lcr, enum u16550_core_word_length length)
+static inline uint8_t uart_lcr_set_word_length(uint8_t lcr, uint8_t length)
 {
     return (lcr & 252) | uart_word_length_to_raw_bits(length);
 }
@@ -1660,7 +1657,7 @@ static inline uint8_t uart_lcr_set_word_length(uint8_t lcr, enum u16550_core_wor
  *
  * Proved: the three bits from the lowest on are a code of this parity.
  */
-static uint8_t uart_parity_to_raw_bits(enum u16550_core_parity parity)
+static uint8_t uart_parity_to_raw_bits(uint8_t parity)
 {
     switch (parity) {
     case U16550_CORE_PARITY_DISABLED:
@@ -1683,7 +1680,7 @@ static uint8_t uart_parity_to_raw_bits(enum u16550_core_parity parity)
  * Proved: the three bits from the lowest on are a code of this parity.
  * Proved: the eight bits are the same in both values, except those of a field.
  */
-static inline uint8_t uart_lcr_set_parity(uint8_t lcr, enum u16550_core_parity parity)
+static inline uint8_t uart_lcr_set_parity(uint8_t lcr, uint8_t parity)
 {
     return (lcr & 199) | (uint8_t)(uart_parity_to_raw_bits(parity) << 3);
 }
@@ -2063,11 +2060,10 @@ static inline bool uart_wait_for(struct u16550_core_driver *uart, uint8_t bits)
  * Returns the trigger level for FIFOs that are on: the configured one, or one byte if none is
  * configured, as on a port that was taken by attach.
  */
-static inline enum u16550_core_fifo_trigger_level
-uart_fifo_level(const struct u16550_core_driver *uart)
+static inline uint8_t uart_fifo_level(const struct u16550_core_driver *uart)
 {
     struct u16550_core_maybe_fifo_trigger_level found = uart->config.fifo_trigger_level;
-    return found.is_some ? found.value : U16550_CORE_FIFO_TRIGGER_LEVEL_ONE;
+    return found.is_some ? found.value : (uint8_t)U16550_CORE_FIFO_TRIGGER_LEVEL_ONE;
 }
 
 /*
@@ -2075,8 +2071,7 @@ uart_fifo_level(const struct u16550_core_driver *uart)
  *
  * Proved: the two bits from the lowest on are the code of this trigger level.
  */
-static uint8_t
-uart_fifo_trigger_level_to_raw_bits(enum u16550_core_fifo_trigger_level fifo_trigger_level)
+static uint8_t uart_fifo_trigger_level_to_raw_bits(uint8_t fifo_trigger_level)
 {
     switch (fifo_trigger_level) {
     case U16550_CORE_FIFO_TRIGGER_LEVEL_ONE:
@@ -2097,8 +2092,7 @@ uart_fifo_trigger_level_to_raw_bits(enum u16550_core_fifo_trigger_level fifo_tri
  * Proved: the two bits from the lowest on are the code of this trigger level.
  * Proved: the eight bits are the same in both values, except those of a field.
  */
-static inline uint8_t
-uart_fcr_set_fifo_trigger_level(uint8_t fcr, enum u16550_core_fifo_trigger_level level)
+static inline uint8_t uart_fcr_set_fifo_trigger_level(uint8_t fcr, uint8_t level)
 {
     return (fcr & 63) | (uint8_t)(uart_fifo_trigger_level_to_raw_bits(level) << 6);
 }
@@ -2106,7 +2100,7 @@ uart_fcr_set_fifo_trigger_level(uint8_t fcr, enum u16550_core_fifo_trigger_level
 /*
  * Returns FCR for FIFOs that are on and stay on. Without the reset bits the bytes in them stay.
  */
-static inline uint8_t uart_level_control_of(enum u16550_core_fifo_trigger_level level)
+static inline uint8_t uart_level_control_of(uint8_t level)
 {
     return uart_fcr_set_fifo_trigger_level(U16550_FCR_FIFO_ENABLE, level);
 }
@@ -2195,7 +2189,7 @@ static inline bool uart_fifo_enabled(const struct u16550_core_driver *uart)
  * Returns which size the FIFOs are taken to have: 16 characters, or what set_fifo_size set
  * last. Makes no access.
  */
-static inline enum u16550_core_fifo_size uart_fifo_size(const struct u16550_core_driver *uart)
+static inline uint8_t uart_fifo_size(const struct u16550_core_driver *uart)
 {
     return uart->fifo_size;
 }
@@ -3242,7 +3236,7 @@ static inline void uart_retrigger_interrupts(struct u16550_core_driver *uart)
 }
 
 /* Returns the number of characters. */
-static size_t uart_fifo_size_characters(enum u16550_core_fifo_size fifo_size)
+static size_t uart_fifo_size_characters(uint8_t fifo_size)
 {
     switch (fifo_size) {
     case U16550_CORE_FIFO_SIZE_SIXTEEN:
@@ -3260,8 +3254,7 @@ static size_t uart_fifo_size_characters(enum u16550_core_fifo_size fifo_size)
 }
 
 /* Returns how many bytes certainly fit once LSR has shown THR_EMPTY. */
-static inline size_t
-uart_burst_limit(const struct u16550_core_driver *uart, enum u16550_core_fifo_size size)
+static inline size_t uart_burst_limit(const struct u16550_core_driver *uart, uint8_t size)
 {
     if (uart->fifo_enabled)
         return uart_fifo_size_characters(size);
@@ -3300,7 +3293,7 @@ uart_write_up_to(struct u16550_core_driver *uart, size_t limit, const uint8_t *b
  */
 static inline size_t
 uart_send_burst(struct u16550_core_driver *uart, const uint8_t *buffer, size_t buffer_len,
-    enum u16550_core_fifo_size size)
+    uint8_t size)
 {
     if (buffer_len == 0)
         return 0;
@@ -3324,7 +3317,7 @@ uart_write_burst(struct u16550_core_driver *uart, const uint8_t *bytes, size_t b
         uart_write_byte(uart, bytes[0]);
         return 1;
     }
-    enum u16550_core_fifo_size fifo_size = uart->fifo_size;
+    uint8_t fifo_size = uart->fifo_size;
     const uint8_t *found = bytes_len >= 16 ? bytes : NULL;
     if (fifo_size == U16550_CORE_FIFO_SIZE_SIXTEEN && found != NULL) {
         uart_write_data(uart, found, 16);
@@ -3620,8 +3613,7 @@ static inline void uart_set_dtr(struct u16550_core_driver *uart, bool on)
  *
  * Proved: no access, and this change to the fields.
  */
-static inline void
-uart_set_fifo_size(struct u16550_core_driver *uart, enum u16550_core_fifo_size size)
+static inline void uart_set_fifo_size(struct u16550_core_driver *uart, uint8_t size)
 {
     uart->fifo_size = size;
 }
@@ -3765,8 +3757,7 @@ static inline void uart_set_spin_limit(struct u16550_core_driver *uart, uint64_t
  * Proved: with the FIFOs on, the level is stored and written to FCR; with them off, nothing
  * is done, and the result is the error.
  */
-static inline bool
-uart_set_trigger_level(struct u16550_core_driver *uart, enum u16550_core_fifo_trigger_level level)
+static inline bool uart_set_trigger_level(struct u16550_core_driver *uart, uint8_t level)
 {
     if (!uart->fifo_enabled)
         return false;
@@ -4411,8 +4402,7 @@ uart_design_ware_store(struct u16550_core_design_ware *design_ware, size_t offse
  * Proved: a fault begins: all interrupts are disabled, if LCR shows that IER can be reached.
  */
 static inline void
-uart_design_ware_begin_fault(struct u16550_core_design_ware *design_ware,
-    enum u16550_core_design_ware_fault fault)
+uart_design_ware_begin_fault(struct u16550_core_design_ware *design_ware, uint8_t fault)
 {
     design_ware->fault = uart_some_design_ware_fault(fault);
     if ((uart_design_ware_load(design_ware, UART_LCR) & U16550_LCR_DLAB) == 0)
@@ -5547,8 +5537,7 @@ static inline void uart_ring_note_modem(struct u16550_core_ring *ring)
  * Proved: how an interrupt is served: bytes are received, a pump is made, a status is noted,
  * or nothing is done.
  */
-static void
-uart_ring_serve(struct u16550_core_ring *ring, enum u16550_core_interrupt_type interrupt)
+static void uart_ring_serve(struct u16550_core_ring *ring, uint8_t interrupt)
 {
     switch (interrupt) {
     case U16550_CORE_INTERRUPT_TYPE_RECEIVER_LINE_STATUS:
@@ -6606,7 +6595,7 @@ uart_checked_divisor(uint32_t frequency, uint32_t baud_rate,
 }
 
 /* Returns the number of data bits. */
-static uint32_t uart_word_length_to_integer(enum u16550_core_word_length word_length)
+static uint32_t uart_word_length_to_integer(uint8_t word_length)
 {
     switch (word_length) {
     case U16550_CORE_WORD_LENGTH_FIVE_BITS:
@@ -6746,7 +6735,7 @@ uart_config_clocks_within(const struct u16550_core_config *config, uint64_t nano
  * Proved: the time of so many characters.
  */
 static inline struct uart_u64_or_invalid_divisor_error
-uart_config_drain_clocks(const struct u16550_core_config *config, enum u16550_core_fifo_size size)
+uart_config_drain_clocks(const struct u16550_core_config *config, uint8_t size)
 {
     uint64_t number = (uint64_t)uart_fifo_size_characters(size) + 1;
     struct uart_u64_or_invalid_divisor_error outcome = uart_config_character_clocks(config);
@@ -6762,9 +6751,7 @@ uart_config_drain_clocks(const struct u16550_core_config *config, enum u16550_co
  * They are those of a 16550, a 16650, a 16750 and a 16950, and those of DesignWare for 256:
  * one, a quarter, a half, and two less than full.
  */
-static size_t
-uart_fifo_trigger_level_characters(enum u16550_core_fifo_trigger_level fifo_trigger_level,
-    enum u16550_core_fifo_size size)
+static size_t uart_fifo_trigger_level_characters(uint8_t fifo_trigger_level, uint8_t size)
 {
     struct uart_u64_4 bytes;
     switch (size) {
@@ -6817,11 +6804,10 @@ uart_fifo_trigger_level_characters(enum u16550_core_fifo_trigger_level fifo_trig
 /*
  * Returns how many characters more the receiver takes, once as many wait as the trigger level.
  */
-static inline uint32_t
-uart_spare(const struct u16550_core_config *config, enum u16550_core_fifo_size size)
+static inline uint32_t uart_spare(const struct u16550_core_config *config, uint8_t size)
 {
     if (config->fifo_trigger_level.is_some) {
-        enum u16550_core_fifo_trigger_level level = config->fifo_trigger_level.value;
+        uint8_t level = config->fifo_trigger_level.value;
         size_t fifo_size_characters = uart_fifo_size_characters(size);
         return (uint32_t)(fifo_size_characters - uart_fifo_trigger_level_characters(level, size));
     }
@@ -6848,8 +6834,8 @@ uart_spare(const struct u16550_core_config *config, enum u16550_core_fifo_size s
  * while another one is read, by two accesses.
  */
 static struct uart_maybe_u64_or_invalid_divisor_error
-uart_config_handler_budget(const struct u16550_core_config *config,
-    enum u16550_core_fifo_size size, uint64_t access_clocks, uint64_t before_clocks)
+uart_config_handler_budget(const struct u16550_core_config *config, uint8_t size,
+    uint64_t access_clocks, uint64_t before_clocks)
 {
     struct uart_u64_or_invalid_divisor_error outcome = uart_config_character_clocks(config);
     if (outcome.error.kind != UART_INVALID_DIVISOR_ERROR_NONE)
@@ -6993,8 +6979,8 @@ uart_config_nearest(struct u16550_core_config config, uint32_t per_mille)
  * has begun.
  */
 static struct uart_maybe_u64_or_invalid_divisor_error
-uart_config_spin_limit_for(const struct u16550_core_config *config,
-    enum u16550_core_fifo_size size, uint64_t access_clocks)
+uart_config_spin_limit_for(const struct u16550_core_config *config, uint8_t size,
+    uint64_t access_clocks)
 {
     struct uart_u64_or_invalid_divisor_error outcome = uart_config_character_clocks(config);
     if (outcome.error.kind != UART_INVALID_DIVISOR_ERROR_NONE)
@@ -7089,7 +7075,7 @@ uart_config_register_dump_baud_rate(const struct u16550_dump *config_register_du
  * Proved: bit 0 is clear, so an interrupt is pending, and the code is that of this
  * interrupt.
  */
-static uint8_t uart_interrupt_type_to_bits(enum u16550_core_interrupt_type interrupt_type)
+static uint8_t uart_interrupt_type_to_bits(uint8_t interrupt_type)
 {
     switch (interrupt_type) {
     case U16550_CORE_INTERRUPT_TYPE_RECEIVER_LINE_STATUS:
@@ -7240,7 +7226,7 @@ static int uart_check_flag(uint8_t byte)
     return uart_unless(byte <= 1, U16550_BAD_CODE);
 }
 
-static int uart_decode_fifo_trigger_level(uint8_t from, enum u16550_core_fifo_trigger_level *to)
+static int uart_decode_fifo_trigger_level(uint8_t from, uint8_t *to)
 {
     switch (from) {
     case 1:
@@ -7260,7 +7246,7 @@ static int uart_decode_fifo_trigger_level(uint8_t from, enum u16550_core_fifo_tr
     }
 }
 
-static uint8_t uart_encode_fifo_trigger_level(enum u16550_core_fifo_trigger_level from)
+static uint8_t uart_encode_fifo_trigger_level(uint8_t from)
 {
     switch (from) {
     case U16550_CORE_FIFO_TRIGGER_LEVEL_ONE:
@@ -7275,7 +7261,7 @@ static uint8_t uart_encode_fifo_trigger_level(enum u16550_core_fifo_trigger_leve
     }
 }
 
-static int uart_decode_word_length(uint8_t from, enum u16550_core_word_length *to)
+static int uart_decode_word_length(uint8_t from, uint8_t *to)
 {
     switch (from) {
     case 5:
@@ -7295,7 +7281,7 @@ static int uart_decode_word_length(uint8_t from, enum u16550_core_word_length *t
     }
 }
 
-static uint8_t uart_encode_word_length(enum u16550_core_word_length from)
+static uint8_t uart_encode_word_length(uint8_t from)
 {
     switch (from) {
     case U16550_CORE_WORD_LENGTH_FIVE_BITS:
@@ -7310,7 +7296,7 @@ static uint8_t uart_encode_word_length(enum u16550_core_word_length from)
     }
 }
 
-static int uart_decode_parity(uint8_t from, enum u16550_core_parity *to)
+static int uart_decode_parity(uint8_t from, uint8_t *to)
 {
     switch (from) {
     case U16550_PARITY_NONE:
@@ -7333,7 +7319,7 @@ static int uart_decode_parity(uint8_t from, enum u16550_core_parity *to)
     }
 }
 
-static uint8_t uart_encode_parity(enum u16550_core_parity from)
+static uint8_t uart_encode_parity(uint8_t from)
 {
     switch (from) {
     case U16550_CORE_PARITY_DISABLED:
@@ -7384,7 +7370,7 @@ static int uart_decode_fifo_action(uint8_t from, enum uart_fifo_action *to)
     }
 }
 
-static int uart_decode_fifo_size(uint16_t from, enum u16550_core_fifo_size *to)
+static int uart_decode_fifo_size(uint16_t from, uint8_t *to)
 {
     switch (from) {
     case 16:
@@ -7407,7 +7393,7 @@ static int uart_decode_fifo_size(uint16_t from, enum u16550_core_fifo_size *to)
     }
 }
 
-static uint16_t uart_encode_fifo_size(enum u16550_core_fifo_size from)
+static uint16_t uart_encode_fifo_size(uint8_t from)
 {
     switch (from) {
     case U16550_CORE_FIFO_SIZE_SIXTEEN:
@@ -7424,7 +7410,7 @@ static uint16_t uart_encode_fifo_size(enum u16550_core_fifo_size from)
     }
 }
 
-static int uart_decode_direction_line(uint8_t from, enum u16550_core_direction_line *to)
+static int uart_decode_direction_line(uint8_t from, uint8_t *to)
 {
     switch (from) {
     case U16550_DIRECTION_RTS:
@@ -7438,7 +7424,7 @@ static int uart_decode_direction_line(uint8_t from, enum u16550_core_direction_l
     }
 }
 
-static int uart_encode_design_ware_fault(enum u16550_core_design_ware_fault from)
+static int uart_encode_design_ware_fault(uint8_t from)
 {
     switch (from) {
     case U16550_CORE_DESIGN_WARE_FAULT_LINE_CONTROL_IGNORED:
@@ -7688,6 +7674,22 @@ static int uart_decode_config(const struct u16550_config *from, struct u16550_co
     return status;
 }
 
+/*
+ * Whether the divisor of a configuration, if there is one, is what was to be computed. That is proved, but where a processor has no division
+ * of 64-bit numbers a function divides that the program may bring along, and one that is wrong is not to put a divisor into the chip, as 0.
+ */
+static bool uart_is_divided(const struct u16550_core_config *config)
+{
+    uint32_t baud_rate = uart_baud_rate_to_integer(config->baud_rate);
+    struct uart_u16_or_invalid_divisor_error found = uart_calc_divisor(config->frequency, baud_rate, config->prescaler_division_factor);
+    uint64_t ticks = 16 * (uint64_t)baud_rate;
+    if (found.error.kind != UART_INVALID_DIVISOR_ERROR_NONE)
+        return true;
+    if (config->prescaler_division_factor.is_some)
+        ticks *= config->prescaler_division_factor.value + 1;
+    return ticks * found.value == config->frequency;
+}
+
 /* The same, if a divisor can be computed. */
 static int uart_decode_computable(const struct u16550_config *from, struct u16550_core_config *to)
 {
@@ -7696,7 +7698,7 @@ static int uart_decode_computable(const struct u16550_config *from, struct u1655
         status = uart_decode_config(from, to);
     if (status != U16550_OK)
         return status;
-    return uart_unless(uart_config_is_computable(to), U16550_NOT_COMPUTABLE);
+    return uart_unless(uart_config_is_computable(to) && uart_is_divided(to), U16550_NOT_COMPUTABLE);
 }
 
 static void uart_encode_config(const struct u16550_core_config *from, struct u16550_config *to)
@@ -7817,6 +7819,11 @@ static int uart_decode_urgent(const uint8_t *from, struct u16550_core_maybe_u8 *
 
 /* --------------------------------------------------------------- making and ending a driver */
 
+int u16550_check_layout(uint32_t first, uint32_t second, uint32_t third)
+{
+    return uart_unless(first == U16550_LAYOUT && second == U16550_LAYOUT && third == U16550_LAYOUT, U16550_OTHER_LAYOUT);
+}
+
 /* Refuses functions that are not there. */
 static int uart_check_io(const struct u16550_io *io)
 {
@@ -7880,22 +7887,22 @@ static int uart_check_place(uintptr_t base, uint8_t stride)
     return uart_if(base > UINTPTR_MAX - (uintptr_t)UART_SPR * stride, U16550_BAD_BASE);
 }
 
-int u16550_new(struct u16550 *uart, const struct u16550_io *io)
+int (u16550_new)(struct u16550 *uart, const struct u16550_io *io)
 {
     return uart_make(uart, io, 0, 1, U16550_OK);
 }
 
-int u16550_new_port(struct u16550 *uart, const struct u16550_io *io, uint16_t base)
+int (u16550_new_port)(struct u16550 *uart, const struct u16550_io *io, uint16_t base)
 {
     return uart_make(uart, io, base, 1, uart_if(base > UINT16_MAX - UART_SPR, U16550_BAD_BASE));
 }
 
-int u16550_new_mmio(struct u16550 *uart, const struct u16550_io *io, uintptr_t base, uint8_t stride)
+int (u16550_new_mmio)(struct u16550 *uart, const struct u16550_io *io, uintptr_t base, uint8_t stride)
 {
     return uart_make(uart, io, base, stride, uart_check_place(base, stride));
 }
 
-int u16550_from_state(struct u16550 *uart, const struct u16550_io *io, const struct u16550_state *state)
+int (u16550_from_state)(struct u16550 *uart, const struct u16550_io *io, const struct u16550_state *state)
 {
     struct uart_driver_state decoded;
     int status = uart_check_memory(uart);
@@ -8365,7 +8372,7 @@ static int uart_check_memory_layout(uintptr_t base, const struct u16550_layout *
     return uart_if(base > UINTPTR_MAX - (uintptr_t)last * layout->stride, U16550_BAD_BASE);
 }
 
-int u16550_new_mmio_wide(struct u16550 *uart, uintptr_t base, const struct u16550_layout *layout)
+int (u16550_new_mmio_wide)(struct u16550 *uart, uintptr_t base, const struct u16550_layout *layout)
 {
     struct u16550_io io;
     int status = uart_check_memory(uart);
@@ -8418,12 +8425,12 @@ static int uart_make_chip(struct u16550 *uart, struct u16550_design_ware *chip, 
     return uart_put(uart, &functions, 0, 1, NULL);
 }
 
-int u16550_new_design_ware(struct u16550 *uart, struct u16550_design_ware *chip, const struct u16550_io *io, uint64_t patience)
+int (u16550_new_design_ware)(struct u16550 *uart, struct u16550_design_ware *chip, const struct u16550_io *io, uint64_t patience)
 {
     return uart_make_chip(uart, chip, io, 0, 1, uart_check_io(io), patience);
 }
 
-int u16550_new_mmio_design_ware(struct u16550 *uart, struct u16550_design_ware *chip, uintptr_t base, const struct u16550_layout *layout,
+int (u16550_new_mmio_design_ware)(struct u16550 *uart, struct u16550_design_ware *chip, uintptr_t base, const struct u16550_layout *layout,
                                 uint64_t patience)
 {
     struct u16550_io io = { NULL, NULL, NULL };
@@ -8859,7 +8866,7 @@ int u16550_fifo_size(struct u16550 *uart, uint16_t *fifo_size)
 
 int u16550_set_fifo_size(struct u16550 *uart, uint16_t fifo_size)
 {
-    enum u16550_core_fifo_size size;
+    uint8_t size;
     int status = uart_enter(uart);
     if (status != U16550_OK)
         return status;
@@ -8890,7 +8897,7 @@ int u16550_handler_budget(const struct u16550_config *config, uint16_t fifo_size
     uint64_t access_clocks, uint64_t before_clocks, uint64_t *clocks)
 {
     struct u16550_core_config decoded;
-    enum u16550_core_fifo_size size;
+    uint8_t size;
     struct uart_maybe_u64_or_invalid_divisor_error found;
     int status = UART_USABLE(clocks, u64);
     if (status == U16550_OK)
@@ -8927,7 +8934,7 @@ int u16550_characters_in(const struct u16550_config *config, uint64_t clocks, ui
 int u16550_drain_clocks(const struct u16550_config *config, uint16_t fifo_size, uint64_t *clocks)
 {
     struct u16550_core_config decoded;
-    enum u16550_core_fifo_size size;
+    uint8_t size;
     struct uart_u64_or_invalid_divisor_error found;
     int status = UART_USABLE(clocks, u64);
     if (status == U16550_OK)
@@ -8963,7 +8970,7 @@ int u16550_spin_limit_for(const struct u16550_config *config, uint16_t fifo_size
     uint64_t access_clocks, uint64_t *limit)
 {
     struct u16550_core_config decoded;
-    enum u16550_core_fifo_size size;
+    uint8_t size;
     struct uart_maybe_u64_or_invalid_divisor_error found;
     int status = UART_USABLE(limit, u64);
     if (status == U16550_OK)
@@ -9164,7 +9171,7 @@ int u16550_set_frame_when_idle(struct u16550 *uart, const struct u16550_config *
 
 int u16550_set_trigger_level(struct u16550 *uart, uint8_t characters)
 {
-    enum u16550_core_fifo_trigger_level level;
+    uint8_t level;
     int status = uart_enter(uart);
     if (status != U16550_OK)
         return status;
@@ -9341,7 +9348,7 @@ int u16550_send_bytes(struct u16550 *uart, const uint8_t *buffer, size_t len, si
 int u16550_send_burst(struct u16550 *uart, const uint8_t *buffer, size_t len, uint16_t fifo_size,
     size_t *count)
 {
-    enum u16550_core_fifo_size size;
+    uint8_t size;
     size_t found;
     int status = UART_USABLE(count, size);
     if (status == U16550_OK)
@@ -10162,6 +10169,8 @@ const char *u16550_text(int status)
         return "the driver notes no errors";
     case U16550_HAS_NOTES:
         return "the driver notes errors already";
+    case U16550_OTHER_LAYOUT:
+        return "program and library were not compiled for each other";
     case U16550_BAD_BASE:
         return "the registers do not fit behind the base address";
     case U16550_BAD_STRIDE:

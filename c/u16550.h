@@ -6,7 +6,8 @@
  * Made by tools/c/emit from the code that is proved, and from the table of the interface. Do not edit.
  *
  * This is u16550.c and u16550.h alone: C99 that needs stddef.h, stdint.h and stdbool.h, and nothing else. It allocates nothing, has
- * no variables and calls no function but those that it is given. Compile u16550.c as the rest of the program is compiled.
+ * no variables and calls no function but those that it is given. A compiler may call memcpy and memset, and where a processor has not 64
+ * bits, functions for arithmetic, which libgcc has. Compile u16550.c as the rest of the program is compiled.
  *
  * The device is reached by two functions of the caller, or by the library itself if it is in memory. The driver is in memory of the
  * caller.
@@ -64,7 +65,8 @@ enum u16550_misuse {
     U16550_NO_RINGS = -10,
     U16550_HAS_RINGS = -11,
     U16550_NO_NOTES = -12,
-    U16550_HAS_NOTES = -13
+    U16550_HAS_NOTES = -13,
+    U16550_OTHER_LAYOUT = -14     /* the library is of another version than the header, or was compiled with other options */
 };
 
 /* Why the registers cannot be there. */
@@ -383,7 +385,7 @@ struct u16550_device {
 /* ---- what a driver keeps */
 
 struct u16550_core_maybe_u32 {
-    bool is_some;
+    uint8_t is_some;
     uint32_t value;
 };
 
@@ -401,8 +403,8 @@ enum u16550_core_fifo_trigger_level {
 };
 
 struct u16550_core_maybe_fifo_trigger_level {
-    bool is_some;
-    enum u16550_core_fifo_trigger_level value;
+    uint8_t is_some;
+    uint8_t value; /* an enum u16550_core_fifo_trigger_level */
 };
 
 enum u16550_core_baud_rate_kind {
@@ -428,7 +430,7 @@ enum u16550_core_baud_rate_kind {
  * the one with a name.
  */
 struct u16550_core_baud_rate {
-    enum u16550_core_baud_rate_kind kind;
+    uint8_t kind; /* an enum u16550_core_baud_rate_kind */
     uint32_t custom;
 };
 
@@ -462,10 +464,10 @@ struct u16550_core_config {
     struct u16550_core_maybe_u32 prescaler_division_factor;
     struct u16550_core_maybe_fifo_trigger_level fifo_trigger_level;
     struct u16550_core_baud_rate baud_rate;
-    enum u16550_core_word_length data_bits;
-    bool extra_stop_bits;
-    enum u16550_core_parity parity;
-    bool check_cts_before_sending;
+    uint8_t data_bits; /* an enum u16550_core_word_length */
+    uint8_t extra_stop_bits;
+    uint8_t parity; /* an enum u16550_core_parity */
+    uint8_t check_cts_before_sending;
 };
 
 /*
@@ -505,15 +507,15 @@ enum u16550_core_fifo_size {
 struct u16550_core_driver {
     struct u16550_device backend;
     struct u16550_core_config config;
-    bool fifo_enabled;
-    enum u16550_core_fifo_size fifo_size;
+    uint8_t fifo_enabled;
+    uint8_t fifo_size; /* an enum u16550_core_fifo_size */
     uint8_t saved_lsr;
     uint8_t saved_msr;
     uint64_t spin_limit;
 };
 
 struct u16550_core_maybe_u8 {
-    bool is_some;
+    uint8_t is_some;
     uint8_t value;
 };
 
@@ -538,8 +540,8 @@ enum u16550_core_design_ware_fault {
 };
 
 struct u16550_core_maybe_design_ware_fault {
-    bool is_some;
-    enum u16550_core_design_ware_fault value;
+    uint8_t is_some;
+    uint8_t value; /* an enum u16550_core_design_ware_fault */
 };
 
 /*
@@ -608,8 +610,8 @@ struct u16550_core_error_notes {
     struct u16550_device backend;
     struct u16550_core_byte_queue noted;
     uint8_t shown;
-    bool is_latch;
-    bool is_overrun_old;
+    uint8_t is_latch;
+    uint8_t is_overrun_old;
 };
 
 enum u16550_core_stuck_error_kind {
@@ -631,13 +633,13 @@ enum u16550_core_interrupt_type {
 
 /* Why a chip is stuck: what ISR still showed after as many rounds as the caller allows. */
 struct u16550_core_stuck_error {
-    enum u16550_core_stuck_error_kind kind;
+    uint8_t kind; /* an enum u16550_core_stuck_error_kind */
     uint8_t unknown;
-    enum u16550_core_interrupt_type pending;
+    uint8_t pending; /* an enum u16550_core_interrupt_type */
 };
 
 struct u16550_core_maybe_stuck_error {
-    bool is_some;
+    uint8_t is_some;
     struct u16550_core_stuck_error value;
 };
 
@@ -660,13 +662,13 @@ struct u16550_core_ring {
     struct u16550_core_byte_queue receive;
     uint8_t line;
     uint8_t modem;
-    bool is_paused;
+    uint8_t is_paused;
     struct u16550_core_maybe_u8 urgent;
-    bool is_held;
-    bool has_told_xoff;
+    uint8_t is_held;
+    uint8_t has_told_xoff;
     size_t unlooked;
     size_t low_mark;
-    bool is_low;
+    uint8_t is_low;
     uint32_t rounds;
     struct u16550_core_maybe_stuck_error stuck;
 };
@@ -685,8 +687,8 @@ enum u16550_core_direction_line {
  * bit is clear. With an inverter between them it sends while the bit is set.
  */
 struct u16550_core_direction {
-    enum u16550_core_direction_line line;
-    bool sends_when_set;
+    uint8_t line; /* an enum u16550_core_direction_line */
+    uint8_t sends_when_set;
 };
 
 /*
@@ -721,7 +723,7 @@ struct u16550_core_direction {
 struct u16550_core_half_duplex {
     struct u16550_core_driver uart;
     struct u16550_core_direction direction;
-    bool is_sending;
+    uint8_t is_sending;
 };
 
 /*
@@ -736,7 +738,7 @@ struct u16550_core_half_duplex {
 struct u16550 {
     volatile uint32_t mark;
     volatile uint32_t is_busy;
-    bool has_rings;
+    uint8_t has_rings;
     struct u16550_core_ring ring;
 };
 
@@ -1644,6 +1646,54 @@ int u16550_ring_take_modem(struct u16550 *uart, uint8_t *msr);
  * sending resumes.
  */
 int u16550_ring_config_register_dump(struct u16550 *uart, struct u16550_dump *dump);
+
+/* --------------------------------------------------------------- the layout of structs
+ *
+ * A library that lays structs out otherwise than its program would write behind them. So the functions that make a driver look first whether
+ * both were compiled for each other, and return U16550_OTHER_LAYOUT if not, without an access to any memory of the program.
+ */
+
+/* Each struct. How many bytes they are together says how a compiler lays structs out. */
+struct u16550_structs {
+    struct u16550_io io;
+    struct u16550_layout layout;
+    struct u16550_config config;
+    struct u16550_state state;
+    struct u16550_dump dump;
+    struct u16550_setup setup;
+    struct u16550_loopback_failure loopback_failure;
+    struct u16550_difference difference;
+    struct u16550_received received;
+    struct u16550_handled handled;
+    struct u16550_line_port line_port;
+    struct u16550_urgent urgent;
+    struct u16550_direction direction;
+    struct u16550_stuck stuck;
+    struct u16550_design_ware design_ware;
+    struct u16550_bus bus;
+    struct u16550_notes notes;
+    struct u16550 driver;
+};
+
+/* The version of this header and the layout of its structs. */
+#define U16550_LAYOUT (65536ul * U16550_VERSION_NUMBER + sizeof(struct u16550_structs))
+
+/*
+ * Returns U16550_OK if each of the three is the library's number, or U16550_OTHER_LAYOUT. Then the library is of another version; or one of
+ * the two was compiled with an option that changes structs, as -fpack-struct; or with one that changes where arguments are, as -mregparm, so
+ * that the library finds other numbers than it was given.
+ */
+int u16550_check_layout(uint32_t first, uint32_t second, uint32_t third);
+
+#define U16550_LOOK() u16550_check_layout(U16550_LAYOUT, U16550_LAYOUT, U16550_LAYOUT)
+#define U16550_LAID_OUT(call) (U16550_LOOK() == U16550_OK ? (call) : U16550_LOOK())
+#define u16550_new(...) U16550_LAID_OUT(u16550_new(__VA_ARGS__))
+#define u16550_new_port(...) U16550_LAID_OUT(u16550_new_port(__VA_ARGS__))
+#define u16550_new_mmio(...) U16550_LAID_OUT(u16550_new_mmio(__VA_ARGS__))
+#define u16550_new_mmio_wide(...) U16550_LAID_OUT(u16550_new_mmio_wide(__VA_ARGS__))
+#define u16550_new_design_ware(...) U16550_LAID_OUT(u16550_new_design_ware(__VA_ARGS__))
+#define u16550_new_mmio_design_ware(...) U16550_LAID_OUT(u16550_new_mmio_design_ware(__VA_ARGS__))
+#define u16550_from_state(...) U16550_LAID_OUT(u16550_from_state(__VA_ARGS__))
 
 #if defined(__cplusplus)
 }

@@ -214,8 +214,8 @@ enum u16550_core_fifo_trigger_level {
 };
 
 struct u16550_core_maybe_fifo_trigger_level {
-    bool is_some;
-    enum u16550_core_fifo_trigger_level value;
+    uint8_t is_some;
+    uint8_t value; /* an enum u16550_core_fifo_trigger_level */
 };
 
 /* Why a port cannot be taken as it is. */
@@ -501,8 +501,7 @@ static void uart_set_line(uint16_t divisor, uint8_t frame)
  *
  * Proved: the two bits from the lowest on are the code of this trigger level.
  */
-static uint8_t
-uart_fifo_trigger_level_to_raw_bits(enum u16550_core_fifo_trigger_level fifo_trigger_level)
+static uint8_t uart_fifo_trigger_level_to_raw_bits(uint8_t fifo_trigger_level)
 {
     switch (fifo_trigger_level) {
     case U16550_CORE_FIFO_TRIGGER_LEVEL_ONE:
@@ -523,8 +522,7 @@ uart_fifo_trigger_level_to_raw_bits(enum u16550_core_fifo_trigger_level fifo_tri
  * Proved: the two bits from the lowest on are the code of this trigger level.
  * Proved: the eight bits are the same in both values, except those of a field.
  */
-static inline uint8_t
-uart_fcr_set_fifo_trigger_level(uint8_t fcr, enum u16550_core_fifo_trigger_level level)
+static inline uint8_t uart_fcr_set_fifo_trigger_level(uint8_t fcr, uint8_t level)
 {
     return (fcr & 63) | (uint8_t)(uart_fifo_trigger_level_to_raw_bits(level) << 6);
 }

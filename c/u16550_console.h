@@ -56,7 +56,7 @@ enum u16550_console_status {
 
 /* What a console keeps. All of it may be zero before the first call: then the FIFOs are taken to be off. */
 struct u16550_console {
-    bool fifo_enabled;
+    uint8_t fifo_enabled;
     uint8_t saved_lsr;
 };
 

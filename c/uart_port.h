@@ -205,6 +205,7 @@ struct uart_transmitter {
     uint8_t fifo_size;       /* 16, 32, 64 or 128; another number counts as 16 */
     struct uart_bytes queue;
     struct uart_wire wire;
+    uint8_t padding[5];
 };
 
 /* A character that waits, with its errors where LSR has them. */
@@ -243,6 +244,7 @@ struct uart_chip {
     uint8_t model;           /* UART_16550A or UART_16450 */
     uint8_t fifo;            /* the FIFO is on */
     uint8_t cuts;            /* characters are cut to the word length of LCR */
+    uint8_t padding[2];
 };
 
 /*
@@ -444,12 +446,16 @@ struct uart_todo {
     uint8_t level;           /* set the interrupt line to this level */
     uint8_t has_moved;       /* that is another level than after the call before */
     uint8_t has_room;        /* offer input again: there was no room, and there is now. It is told once, when nothing waits */
+#if SIZE_MAX > 0xffffffff
+    uint8_t padding[4];
+#endif
 };
 
 /* The port. */
 struct uart_port {
     struct uart_chip chip;
     struct uart_told told;
+    uint8_t padding[4];
 };
 
 /*
@@ -645,6 +651,10 @@ void uart_clock_after_host(struct uart_clock *clock, const struct uart_todo *tod
  * Proved, left: clock.new.is_owed = 0.
  */
 uint8_t uart_clock_pass_time(struct uart_clock *clock);
+
+/* No compiler puts bytes of its own into these, whatever it is told: a program and a library have them alike. */
+typedef char uart_port_layout[sizeof(struct uart_chip) == 624 && sizeof(struct uart_port) == 632 &&
+                              sizeof(struct uart_todo) == (sizeof(size_t) > 4 ? 16 : sizeof(size_t) + 4) ? 1 : -1];
 
 /* ------------------------------------------------------------------ a chip as bytes
  *

@@ -234,7 +234,7 @@ class Beside:
         raise Unknown(f"a value of a type that is {word}")
 
     def make_tagged(self, of, at):
-        cases, tags = "", f"enum {self.types.plain_name(of)}_kind"
+        cases, tags = "", self.types.tag(of).text()
         for tag, (_, _, part) in enumerate(self.types.variants(of)):
             parts = "".join(self.made_at(one, f"{at}.{self.types.part_name(of, tag, order)}") for order, one in enumerate(part)
                             if not self.types.is_unit(one))

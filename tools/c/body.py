@@ -495,7 +495,11 @@ class Body:
             start = to.pointer if isinstance(to, ArrayAt) else c.Field(to, "bytes", c.Pointer(self.types.c(of[1])))
             return [c.Set(c.Index(start, c.Literal(order, c.Number(64, c.SIZE))), self.operand(one)) for order, one in enumerate(value.parts)]
         made = self.value(value, of)
-        if isinstance(value, Place) and not value.steps and all(isinstance(one, c.Var) and isinstance(one.of, c.Number) and one.of.width for one in (to, made)):
+        if (
+            isinstance(value, Place)
+            and not value.steps
+            and all(isinstance(one, c.Var) and isinstance(one.of, c.Number) and one.of.width for one in (to, made))
+        ):
             self.copies.append(c.Set(to, made))
             return [self.copies[-1]]
         return self.set(to, made)
@@ -641,7 +645,7 @@ class Body:
             error = kind.parts[-1] if kind.kind == "outcome" else kind.parts[0]
             shown = one if kind.kind == "status" else c.Field(one, "error", self.types.c(error))
             return [self.two_ways(self.library.is_error(shown, error), cases, 1, labels)]
-        number = one if kind.kind == "enum" else c.Field(one, "kind", c.Named(f"enum {self.types.plain_name(of)}_kind"))
+        number = one if kind.kind == "enum" else c.Field(one, "kind", self.types.tag(of))
         named = [(None if numbers is None else [c.Word(self.types.constant(of, n), number.of) for n in numbers], self.list(body, labels))
                  for numbers, body in cases]
         return [self.choice(number, named)]

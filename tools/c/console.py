@@ -51,7 +51,7 @@ def members(library):
 
     def some_level(one):
         # The level that Config::DEFAULT has.
-        inner = c.Word("U16550_CORE_FIFO_TRIGGER_LEVEL_FOURTEEN", c.Named("enum u16550_core_fifo_trigger_level"))
+        inner = c.Word("U16550_CORE_FIFO_TRIGGER_LEVEL_FOURTEEN", c.Code("enum u16550_core_fifo_trigger_level"))
         return library.made(("Named", OPTION, (("Named", level, ()),)), 1, [("is_some", c.Word("true", c.BOOL)), ("value", inner)])
 
     config = "struct u16550_core_config"
@@ -72,7 +72,7 @@ def made(folder):
     layer = text_of("layer_console.c")
     text = called_by(text, layer)
     struct = next(one for name, one in library.types.declarations if f"struct {name}" == DRIVER)
-    shown = re.sub(rf"(?m)^ *[^\n]*\b({'|'.join(GONE)});\n", "", struct[struct.index(DRIVER):])
+    shown = re.sub(rf"(?m)^ *[^\n]*\b({'|'.join(GONE)});[^\n]*\n", "", struct[struct.index(DRIVER):])
     # What the driver is made of, and a console has not, is not declared.
     own = named_in([one for one in library.types.declarations if one[1] != struct], text + layer + shown)
     if found := re.search(rf"\b(uart_config|uart_chip)\b|(->|\.)({'|'.join(GONE)})\b", re.sub(r"/\*[\s\S]*?\*/", "", text) + layer):

@@ -86,6 +86,19 @@ def functions(convention, proved):
     return "\n".join(out)
 
 
+def structs():
+    """A member for each struct of the header that a program may have."""
+    names = [*(one.name for one in calls.TYPES if isinstance(one, calls.Struct)), "design_ware", "bus", "notes"]
+    return "".join(f"    struct u16550_{one} {one};\n" for one in names) + "    struct u16550 driver;\n"
+
+
+def makers():
+    """The functions that make a driver, each behind the look at the layout."""
+    names = [one.name for section in calls.SECTIONS if section.title == "making a driver" for group in section.groups for one in group.calls
+             if one.name.startswith(("new", "from_state"))]
+    return "".join(f"#define u16550_{one}(...) U16550_LAID_OUT(u16550_{one}(__VA_ARGS__))\n" for one in names)
+
+
 def version(number):
     """The version as a text, and as a number that grows."""
     major, minor, patch = map(int, number.split("."))
@@ -97,7 +110,8 @@ def filled(template, number, convention, kept="", proved=lambda call: ""):
     """A template with what the table says."""
     parts = {"RULES": "".join(f" * {one}".rstrip() + "\n" for one in calls.RULES.strip().split("\n")), "VERSION": version(number),
              "NUMBERS": numbers(), "TYPES": types(convention), "KEPT": kept, "HANDLE": comment(calls.HANDLE), "CHIP": comment(calls.CHIP),
-             "NOTES": comment(calls.NOTES), "BUS": comment(calls.BUS), "CALLS": functions(convention, proved)}
+             "NOTES": comment(calls.NOTES), "BUS": comment(calls.BUS), "CALLS": functions(convention, proved), "STRUCTS": structs(),
+             "MAKERS": makers()}
     for name, text in parts.items():
         template = template.replace(f"@{name}@", text)
     return template

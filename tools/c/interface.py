@@ -62,6 +62,7 @@ def codes(enums):
     for row in calls.CODES:
         name = snake(row.of)
         kind, members = enums.complete(name, row.numbers)
+        kind = "uint8_t" if kind.startswith("enum u16550_core_") else kind
         shown = {variant: number(code) if isinstance(code, str) else str(code) for variant, code in row.numbers.items()}
         if row.given:
             cases = [(shown[variant], [f"*to = {member};", "return U16550_OK;"]) for member, variant in members]
@@ -265,7 +266,8 @@ def lines_of_config(call, taken, passed):
         tests, value = [*tests, f"uart_unless({value}.is_some, {number(call.none)})"], f"{value}.value"
     first, *others = in_turn([usable(call, call.gives), *(rule.test for rule in taken)])
     lines = [f"    {one};" for one in locals_of(call, taken)] + [f"    int {first.lstrip()}", *others]
-    lines += ["    if (status != U16550_OK)", "        return status;", f"    found = uart_config_{call.name}(&{', '.join(passed)});", *in_turn(tests)]
+    lines += ["    if (status != U16550_OK)", "        return status;"]
+    lines += [f"    found = uart_config_{call.name}(&{', '.join(passed)});", *in_turn(tests)]
     return [*lines, "    if (status == U16550_OK)", f"        *{call.gives} = {value};", "    return status;"]
 
 

@@ -32,6 +32,22 @@ static int uart_decode_config(const struct u16550_config *from, struct u16550_co
     return status;
 }
 
+/*
+ * Whether the divisor of a configuration, if there is one, is what was to be computed. That is proved, but where a processor has no division
+ * of 64-bit numbers a function divides that the program may bring along, and one that is wrong is not to put a divisor into the chip, as 0.
+ */
+static bool uart_is_divided(const struct u16550_core_config *config)
+{
+    uint32_t baud_rate = uart_baud_rate_to_integer(config->baud_rate);
+    struct uart_u16_or_invalid_divisor_error found = uart_calc_divisor(config->frequency, baud_rate, config->prescaler_division_factor);
+    uint64_t ticks = 16 * (uint64_t)baud_rate;
+    if (found.error.kind != UART_INVALID_DIVISOR_ERROR_NONE)
+        return true;
+    if (config->prescaler_division_factor.is_some)
+        ticks *= config->prescaler_division_factor.value + 1;
+    return ticks * found.value == config->frequency;
+}
+
 /* The same, if a divisor can be computed. */
 static int uart_decode_computable(const struct u16550_config *from, struct u16550_core_config *to)
 {
@@ -40,7 +56,7 @@ static int uart_decode_computable(const struct u16550_config *from, struct u1655
         status = uart_decode_config(from, to);
     if (status != U16550_OK)
         return status;
-    return uart_unless(uart_config_is_computable(to), U16550_NOT_COMPUTABLE);
+    return uart_unless(uart_config_is_computable(to) && uart_is_divided(to), U16550_NOT_COMPUTABLE);
 }
 
 static void uart_encode_config(const struct u16550_core_config *from, struct u16550_config *to)
@@ -161,6 +177,11 @@ static int uart_decode_urgent(const uint8_t *from, struct u16550_core_maybe_u8 *
 
 /* --------------------------------------------------------------- making and ending a driver */
 
+int u16550_check_layout(uint32_t first, uint32_t second, uint32_t third)
+{
+    return uart_unless(first == U16550_LAYOUT && second == U16550_LAYOUT && third == U16550_LAYOUT, U16550_OTHER_LAYOUT);
+}
+
 /* Refuses functions that are not there. */
 static int uart_check_io(const struct u16550_io *io)
 {
@@ -224,22 +245,22 @@ static int uart_check_place(uintptr_t base, uint8_t stride)
     return uart_if(base > UINTPTR_MAX - (uintptr_t)UART_SPR * stride, U16550_BAD_BASE);
 }
 
-int u16550_new(struct u16550 *uart, const struct u16550_io *io)
+int (u16550_new)(struct u16550 *uart, const struct u16550_io *io)
 {
     return uart_make(uart, io, 0, 1, U16550_OK);
 }
 
-int u16550_new_port(struct u16550 *uart, const struct u16550_io *io, uint16_t base)
+int (u16550_new_port)(struct u16550 *uart, const struct u16550_io *io, uint16_t base)
 {
     return uart_make(uart, io, base, 1, uart_if(base > UINT16_MAX - UART_SPR, U16550_BAD_BASE));
 }
 
-int u16550_new_mmio(struct u16550 *uart, const struct u16550_io *io, uintptr_t base, uint8_t stride)
+int (u16550_new_mmio)(struct u16550 *uart, const struct u16550_io *io, uintptr_t base, uint8_t stride)
 {
     return uart_make(uart, io, base, stride, uart_check_place(base, stride));
 }
 
-int u16550_from_state(struct u16550 *uart, const struct u16550_io *io, const struct u16550_state *state)
+int (u16550_from_state)(struct u16550 *uart, const struct u16550_io *io, const struct u16550_state *state)
 {
     struct uart_driver_state decoded;
     int status = uart_check_memory(uart);

@@ -37,12 +37,12 @@ static int uart_make_chip(struct u16550 *uart, struct u16550_design_ware *chip, 
     return uart_put(uart, &functions, 0, 1, NULL);
 }
 
-int u16550_new_design_ware(struct u16550 *uart, struct u16550_design_ware *chip, const struct u16550_io *io, uint64_t patience)
+int (u16550_new_design_ware)(struct u16550 *uart, struct u16550_design_ware *chip, const struct u16550_io *io, uint64_t patience)
 {
     return uart_make_chip(uart, chip, io, 0, 1, uart_check_io(io), patience);
 }
 
-int u16550_new_mmio_design_ware(struct u16550 *uart, struct u16550_design_ware *chip, uintptr_t base, const struct u16550_layout *layout,
+int (u16550_new_mmio_design_ware)(struct u16550 *uart, struct u16550_design_ware *chip, uintptr_t base, const struct u16550_layout *layout,
                                 uint64_t patience)
 {
     struct u16550_io io = { NULL, NULL, NULL };

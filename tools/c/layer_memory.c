@@ -126,7 +126,7 @@ static int uart_check_memory_layout(uintptr_t base, const struct u16550_layout *
     return uart_if(base > UINTPTR_MAX - (uintptr_t)last * layout->stride, U16550_BAD_BASE);
 }
 
-int u16550_new_mmio_wide(struct u16550 *uart, uintptr_t base, const struct u16550_layout *layout)
+int (u16550_new_mmio_wide)(struct u16550 *uart, uintptr_t base, const struct u16550_layout *layout)
 {
     struct u16550_io io;
     int status = uart_check_memory(uart);

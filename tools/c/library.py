@@ -125,7 +125,7 @@ class Written:
 
 def is_constant(value):
     """Whether a value is a constant of an enum, or true or false."""
-    return isinstance(value, c.Word) and (value.of is c.BOOL or value.of.text().startswith("enum "))
+    return isinstance(value, c.Word) and (value.of is c.BOOL or isinstance(value.of, c.Named) and value.of.name.startswith("enum "))
 
 
 def is_known(value):
@@ -291,7 +291,7 @@ class Library:
         for order, value in known.items():
             # Of a struct that is made of constants the last one says what it is.
             word = value if isinstance(value, c.Word) else [one for one in value.fields.values() if isinstance(one, c.Word)][-1]
-            shown = word.name.removeprefix(word.of.text().removeprefix("enum ").upper() + "_").replace("_", " ").lower()
+            shown = word.name.removeprefix(word.of.name.removeprefix("enum ").upper() + "_").replace("_", " ").lower()
             out.append(f"The {parameters[order].name} is {shown} in each call, and so it is left out.")
         return out
 
@@ -631,7 +631,7 @@ class Library:
         out = {}
         for order, (name, inner) in enumerate(self.members(of)):
             if inner[0] == "Kind":
-                out[name] = c.Named(f"enum {self.types.plain_name(of)}_kind")
+                out[name] = self.types.tag(of)
             else:
                 is_size = self.types.kind(of).kind == "slice" and name == "len" or self.types.kind(of).kind == "struct" and self.size_member(of, name)
                 out[name] = c.Pointer(c.BYTE) if inner == "Ptr" else self.types.c(inner, is_size)
@@ -697,7 +697,7 @@ class Library:
         none = self.types.constant(of, None)
         if self.types.kind(of).kind == "enum":
             return c.Binary("!=", one, c.Word(none, one.of), c.BOOL)
-        number = c.Named(f"enum {self.types.plain_name(of)}_kind")
+        number = self.types.tag(of)
         return c.Binary("!=", c.Field(one, "kind", number), c.Word(none, number), c.BOOL)
 
     # Text.

@@ -213,6 +213,15 @@ def is_plain(definition):
     )
 
 
+def padded(text):
+    """A text whose structs have no place for bytes of a compiler's own: so they are the same whatever it is told, as by -fpack-struct."""
+    for last, padding in PADDING.items():
+        if text.count(f"{last}\n}};\n") != 1:
+            sys.exit(f"emit: {text.count(last)} structs of the header end with {last!r}, and not one")
+        text = text.replace(f"{last}\n}};\n", f"{last}\n{padding}\n}};\n")
+    return text
+
+
 class Header:
     """The header of the pair, of that of the library and of that which writes and reads a chip as bytes."""
 
@@ -223,7 +232,7 @@ class Header:
     def __init__(self, library, state):
         start = library.index("/* What most functions return.")
         end = library.index("/* ---------------------------------------------------------------- the driver")
-        self.text, self.state = library[start:end].rstrip() + "\n", state
+        self.text, self.state = padded(library[start:end].rstrip() + "\n"), state
         # The functions of the header, with the names of their parameters.
         self.prototypes = {found[1]: [re.search(r"\w+$", one.strip())[0] for one in found[2].split(",")] for found in
                            re.finditer(r"(?m)^\w[\w ]*?\*?\b(uart_\w+)\(([^()]*)\);", self.text)}
@@ -238,7 +247,7 @@ class Header:
     def made(self, library):
         """The text of the header."""
         text = "\n".join([INTRODUCTION + f"#ifndef {GUARD}\n#define {GUARD}\n", OTHER, "#include <stddef.h>\n#include <stdint.h>\n", CPLUSPLUS,
-                          self.text, self.declared_state(), CPLUSPLUS_END, "#endif\n"])
+                          self.text + SIZES, self.declared_state(), CPLUSPLUS_END, "#endif\n"])
         def told(found):
             lines = proved_of(library, found[2])
             if not lines:
@@ -286,6 +295,19 @@ BEFORE_NULL = {
     "UART_STATE_BAD_VALUE = 6,    /* a byte that its field cannot have: the offset of the byte */\n":
         "    UART_STATE_NULL_POINTER = 7, /* a pointer is null: nothing is written */\n",
 }
+# What is behind the last member of a struct, in the place of the bytes that a compiler puts there on 64 bits.
+PADDING = {
+    "    struct uart_wire wire;": "    uint8_t padding[5];",
+    "    uint8_t cuts;            /* characters are cut to the word length of LCR */": "    uint8_t padding[2];",
+    "    uint8_t has_room;        /* offer input again: there was no room, and there is now. It is told once, when nothing waits */":
+        "#if SIZE_MAX > 0xffffffff\n    uint8_t padding[4];\n#endif",
+    "    struct uart_told told;": "    uint8_t padding[4];",
+}
+SIZES = """
+/* No compiler puts bytes of its own into these, whatever it is told: a program and a library have them alike. */
+typedef char uart_port_layout[sizeof(struct uart_chip) == 624 && sizeof(struct uart_port) == 632 &&
+                              sizeof(struct uart_todo) == (sizeof(size_t) > 4 ? 16 : sizeof(size_t) + 4) ? 1 : -1];
+"""
 OTHER = """#ifdef UART_16550_H
 #error "uart_16550.h declares the same: include one of the two"
 #endif

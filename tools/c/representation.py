@@ -3,7 +3,7 @@ import re
 import textwrap
 
 from names import snake
-from syntax import BOOL, BYTE, SIZE, VOID, Named, Number, Pointer, Width, declared
+from syntax import BOOL, BYTE, SIZE, VOID, Code, Named, Number, Pointer, Width, declared
 from translate import Unknown, head
 from tree import DEVICE, MEMORY, PATIENCE, PORTS
 
@@ -152,7 +152,7 @@ class Representation:
         if name in self.public.values():
             # The header has another type of this name.
             name = f"{self.own(of)[0]}_{name.removeprefix('uart_')}"
-        return re.sub("^uart_", "u16550_core_", name) if of in self.in_header else name
+        return re.sub("^uart_", "u16550_core_", name) if self.is_in_header(of) else name
 
     def canonical(self, of):
         """The type of those that are the same in C: a result whose error says nothing is an option."""
@@ -263,7 +263,15 @@ class Representation:
             return self.c(self.same_as(of))
         if word == "device":
             return Named(OF_CALLER_TYPES[of])
-        return Named(self.declare(of))
+        name = self.declare(of)
+        return Code(name) if word == "enum" and self.is_in_header(of) else Named(name)
+
+    def tag(self, of):
+        """The C type of the number that says which variant an error is."""
+        return (Code if self.is_in_header(of) else Named)(f"enum {self.plain_name(of)}_kind")
+
+    def is_in_header(self, of):
+        return self.canonical(of) in self.in_header
 
     def pointer(self, of):
         if of == "Ptr":
@@ -287,10 +295,13 @@ class Representation:
         """Whether a part of a struct is an array in C: only in a struct of the header, since an array cannot be assigned."""
         return of in self.public and inner[0] == "Array"
 
-    def member(self, of, name, is_size=None):
-        if of == "Ptr":
-            return f"    {declared(Pointer(BYTE), name)};"
-        return f"    {declared(self.c(of, is_size), name)};"
+    def member(self, whole, of, name, is_size=None):
+        """A member of a struct of this type. In the header it is as wide as it is whatever a compiler is told, and by whatever name it has bool."""
+        made = Pointer(BYTE) if of == "Ptr" else self.c(of, is_size)
+        if self.is_in_header(whole) and made is BOOL:
+            made = BYTE
+        told = f" /* an {made.name} */" if isinstance(made, Code) else ""
+        return f"    {declared(made, name)};{told}"
 
     def declaration(self, of, name):
         kind = self.kind(of)
@@ -309,20 +320,21 @@ class Representation:
         if kind.kind == "array":
             return [f"    {declared(self.c(of[1]), f'bytes[{of[2]}]')};"]
         if kind.kind == "option":
-            return [f"    bool {kind.parts[2]};", self.member(kind.parts[0], kind.parts[3])]
+            return [self.member(of, "Bool", kind.parts[2]), self.member(of, kind.parts[0], kind.parts[3])]
         if kind.kind == "outcome":
-            return [self.member(kind.parts[1], "error"), self.member(kind.parts[0], "value")]
+            return [self.member(of, kind.parts[1], "error"), self.member(of, kind.parts[0], "value")]
         if kind.kind == "either":
-            return ["    bool is_error;", self.member(kind.parts[1], "error"), self.member(kind.parts[0], "value")]
+            return [self.member(of, "Bool", "is_error"), self.member(of, kind.parts[1], "error"), self.member(of, kind.parts[0], "value")]
         if kind.kind == "slice":
-            return [self.member(kind.parts[0], "data"), "    size_t len;"]
+            return [self.member(of, kind.parts[0], "data"), "    size_t len;"]
         if kind.kind == "tagged":
-            tags = f"enum {name}_kind"
-            self.declarations.append((f"{name}_kind", f"{tags} {{\n" + ",\n".join(self.constants(of)) + "\n};\n"))
-            inner = [self.member(one, self.part_name(of, tag, order)) for tag, (_, _, part) in enumerate(self.variants(of))
+            tags = self.tag(of)
+            self.declarations.append((f"{name}_kind", f"{tags.name} {{\n" + ",\n".join(self.constants(of)) + "\n};\n"))
+            inner = [self.member(of, one, self.part_name(of, tag, order)) for tag, (_, _, part) in enumerate(self.variants(of))
                      for order, one in enumerate(part) if not self.is_unit(one)]
-            return [f"    {tags} kind;", *inner]
-        return [self.member(one, field, self.is_size(of, order)) for order, (field, one) in enumerate(self.fields(of)) if not self.is_unit(one)]
+            told = f" /* an {tags.name} */" if isinstance(tags, Code) else ""
+            return [f"    {declared(tags, 'kind')};{told}", *inner]
+        return [self.member(of, one, field, self.is_size(of, order)) for order, (field, one) in enumerate(self.fields(of)) if not self.is_unit(one)]
 
     def comment(self, of):
         if of[0] != "Named" or of[1].startswith("core"):

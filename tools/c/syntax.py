@@ -60,6 +60,14 @@ class Named:
         return self.name
 
 
+@dataclasses.dataclass(frozen=True)
+class Code(Named):
+    """The enum of a number in a struct of the header. How wide an enum is depends on what a compiler is told, and so it is no type there."""
+
+    def text(self):
+        return "uint8_t"
+
+
 @dataclasses.dataclass(eq=False)
 class Pointer:
     to: typing.Any
@@ -407,6 +415,11 @@ def side(one, operator, is_right):
     return text(one) if known and not is_unusual else f"({text(one)})"
 
 
+def branch(one):
+    """The text of what a choice may be. g++ warns of one that is a name of an enum if the other is none."""
+    return text(Cast(one.of, one)) if isinstance(one, Word) and isinstance(one.of, Code) else at_level(one, 3)
+
+
 def text(one):
     """The text of an expression."""
     if isinstance(one, Var):
@@ -432,7 +445,7 @@ def text(one):
     if isinstance(one, Binary):
         return f"{side(one.left, one.operator, False)} {one.operator} {side(one.right, one.operator, True)}"
     if isinstance(one, Choice):
-        return f"{at_level(one.condition, 3)} ? {at_level(one.yes, 3)} : {at_level(one.no, 3)}"
+        return f"{at_level(one.condition, 3)} ? {branch(one.yes)} : {branch(one.no)}"
     if isinstance(one, CallOf):
         return f"{one.name}({', '.join(map(text, one.arguments))})"
     raise TypeError(one)

@@ -253,8 +253,10 @@ static inline uint64_t uart_state_number(struct uart_state_reader *from, unsigne
 
     if (!uart_state_has(from, len))
         return 0;
-    for (i = 0; i < len; i++)
-        number |= (uint64_t)from->bytes[from->offset++] << 8 * i;
+    /* From the highest byte on: for a shift by a number that is not known compilers of 32 bits call a function. */
+    for (i = len; i > 0; i--)
+        number = number << 8 | from->bytes[from->offset + i - 1];
+    from->offset += len;
     return number;
 }
 

@@ -88,7 +88,8 @@ enum u16550_misuse {
     U16550_NO_RINGS = -10,
     U16550_HAS_RINGS = -11,
     U16550_NO_NOTES = -12,
-    U16550_HAS_NOTES = -13
+    U16550_HAS_NOTES = -13,
+    U16550_OTHER_LAYOUT = -14     /* the library is of another version than the header, or was compiled with other options */
 };
 
 /* Why the registers cannot be there. */

@@ -24,6 +24,7 @@ pub enum Failure {
     HasRings = -11,
     NoNotes = -12,
     HasNotes = -13,
+    OtherLayout = -14,
     BadBase = 10,
     BadStride = 11,
     BadWidth = 12,
@@ -78,7 +79,7 @@ pub enum Failure {
 }
 
 impl Failure {
-    pub const ALL: [Self; 64] = [
+    pub const ALL: [Self; 65] = [
         Self::NullPointer,
         Self::Misaligned,
         Self::NotMade,
@@ -92,6 +93,7 @@ impl Failure {
         Self::HasRings,
         Self::NoNotes,
         Self::HasNotes,
+        Self::OtherLayout,
         Self::BadBase,
         Self::BadStride,
         Self::BadWidth,
@@ -160,6 +162,7 @@ impl Failure {
             Self::HasRings => c"the driver has rings already",
             Self::NoNotes => c"the driver notes no errors",
             Self::HasNotes => c"the driver notes errors already",
+            Self::OtherLayout => c"program and library were not compiled for each other",
             Self::BadBase => c"the registers do not fit behind the base address",
             Self::BadStride => c"the stride is not a power of two",
             Self::BadWidth => c"a register has 8, 16 or 32 bits",

@@ -6,7 +6,7 @@
 #include "u16550.h"
 
 #include "choices.h"
-#include "../../../rust/uart_16550_c/tests/each.h"
+#include "each.h"
 
 /* Now and then a call gets null for what it is to write. */
 static int is_null;
@@ -1004,7 +1004,8 @@ static void call(struct u16550 *u)
 {
     static const uint32_t kinds[26] = { 0, 0, 1, 1, 1, 1, 1, 1, 1, 1, 2, 2, 2, 2, 3, 3, 3, 3, 3, 3, 3, 3, 4, 5, 6, 6 };
     uint32_t kind = kinds[below(26)];
-    uint32_t which = below(kind == 0 ? 21 : kind == 1 ? 22 : kind == 2 ? 15 : kind == 3 ? 25 : kind == 6 ? OF_CONFIG : kind == 5 || below(4) ? 1 : 11);
+    uint32_t which =
+        below(kind == 0 ? 21 : kind == 1 ? 22 : kind == 2 ? 15 : kind == 3 ? 25 : kind == 6 ? OF_CONFIG : kind == 5 || below(4) ? 1 : 11);
     times[kind][which]++;
     is_null = below(50) == 0;
     if (below(200) == 0)
