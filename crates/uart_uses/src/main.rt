@@ -1,7 +1,7 @@
 //! Programs to copy. `main` asks a question over the software chip, and prints the answer.
 //!
-//! The other modules are the callers in the CALLING.md of each library crate: each is proved here,
-//! and run by a test.
+//! The other modules are callers to copy, of each library crate: each is proved here, and run by a
+//! test.
 #![tactic(auto)]
 
 pub mod chip;
