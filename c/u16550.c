@@ -6682,7 +6682,7 @@ uart_scaled(uint64_t value, uint32_t times, uint32_t per, uint32_t more)
         found = uart_some_u64(0);
     } else {
         struct uart_maybe_u64 found2;
-        if (number <= UINT64_C(0xffffffffffffffff) / number2)
+        if (number <= (uint64_t)-1 / number2)
             found2 = uart_some_u64(number * number2);
         else
             found2 = uart_no_u64();
@@ -6692,7 +6692,7 @@ uart_scaled(uint64_t value, uint32_t times, uint32_t per, uint32_t more)
     if (!found3.is_some)
         return uart_no_u64();
     uint64_t number3 = (value % (uint64_t)per * (uint64_t)times + (uint64_t)more) / (uint64_t)per;
-    if (UINT64_C(0xffffffffffffffff) - number3 < found3.value)
+    if ((uint64_t)-1 - number3 < found3.value)
         return uart_no_u64();
     return uart_some_u64(found3.value + number3);
 }
@@ -6844,8 +6844,8 @@ uart_config_handler_budget(const struct u16550_core_config *config, uint8_t size
         return uart_good_maybe_u64_or_invalid_divisor_error(uart_no_u64());
     uint64_t most = ((uint64_t)uart_spare(config, size) + 1) * outcome.value - 1;
     uint64_t number = 4 * access_clocks;
-    uint64_t number2 = before_clocks <= UINT64_C(0xffffffffffffffff) - number
-        ? before_clocks + number : UINT64_C(0xffffffffffffffff);
+    uint64_t number2 = before_clocks <= (uint64_t)-1 - number ? before_clocks + number
+        : (uint64_t)-1;
     struct uart_maybe_u64 found;
     if (most < number2)
         found = uart_no_u64();

@@ -2925,8 +2925,7 @@ static inline void uart_transmitter_put(struct uart_transmitter *uart_transmitte
 static inline void uart_transmitter_count_overflow(struct uart_transmitter *uart_transmitter)
 {
     uint64_t number = uart_transmitter->overflows;
-    uart_transmitter->overflows = number <= UINT64_C(0xffffffffffffffff) - 1 ? number + 1
-        : UINT64_C(0xffffffffffffffff);
+    uart_transmitter->overflows = number <= (uint64_t)-1 - 1 ? number + 1 : (uint64_t)-1;
 }
 
 /*

@@ -382,6 +382,9 @@ def number_text(one):
     is_size = isinstance(one.of, Number) and one.of.width and one.of.width.is_size
     if is_size and one.value == (1 << 64) - 1:
         return "SIZE_MAX"
+    # Without a macro: a kernel that has types of its own defines `UINT32_C`, and has nothing like it for 64 bits.
+    if one.value == (1 << 64) - 1:
+        return "(uint64_t)-1"
     if one.value >= 1 << 32:
         return f"UINT64_C({one.value})" if one.value < 1 << 63 else f"UINT64_C({one.value:#x})"
     if one.value > 0x7FFF:
