@@ -51,7 +51,7 @@ IN_DRIVER = [
     ("a level of 56 is one of 55", "bytes.bytes[3] = 56;", "bytes.bytes[3] = 55;"),
     ("the first byte is read an access earlier", "uint64_t number = 4 * access_clocks;", "uint64_t number = 3 * access_clocks;"),
     ("a byte may take three accesses", "if (outcome.value / 2 < access_clocks)", "if (outcome.value / 3 < access_clocks)"),
-    ("what is served before wraps around", "uint64_t number2 = before_clocks <= (uint64_t)-1 - number\n        ? before_clocks + number : (uint64_t)-1;",
+    ("what is served before wraps around", "uint64_t number2 = before_clocks <= (uint64_t)-1 - number ? before_clocks + number\n        : (uint64_t)-1;",
      "uint64_t number2 = before_clocks + number;"),
     ("no character ends at once", "clocks / outcome.value + 1);", "clocks / outcome.value);"),
     ("a transmitter is its FIFO", "uint64_t number = (uint64_t)uart_fifo_size_characters(size) + 1;", "uint64_t number = (uint64_t)uart_fifo_size_characters(size);"),
