@@ -444,7 +444,7 @@ mod tests {
 
     #[test]
     fn of_two_waits_as_long_the_first_is_told() {
-        let text = counted("w 3 03 0 @500\na 00 41 1 @1000\nr 0 41 0 @3000\na 00 42 1 @4000\nr 0 42 0 @6000\n");
+        let text = text_of("w 3 03 0 @500\na 00 41 1 @1000\nr 0 41 0 @3000\na 00 42 1 @4000\nr 0 42 0 @6000\n");
         let row = "  longest wait from arrival to read: 2.0 us, of the byte that is read at line 3\n";
         assert!(text.contains(row), "{text}");
     }
