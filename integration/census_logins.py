@@ -48,6 +48,12 @@ class Port:
         text, self.unread = self.unread[: found.end()], self.unread[found.end() :]
         return text
 
+    def power_off(self) -> None:
+        """Ends the guest, and waits until its port is closed: QEMU loses what it has not taken of the text once this end is closed."""
+        self.type("busybox poweroff -f")
+        while received := self.socket.recv(4096):
+            print(received.decode("ascii", "replace").replace("\r", ""), end="")
+
     def log_in(self) -> None:
         """Logs in as root, who has no password."""
         self.expect("login: ")
@@ -98,7 +104,7 @@ def type_at(first: Port, second: Port, line: str) -> None:
     check(status == 5, "the second port is not refused once somebody has logged in there")
     text, _ = first.run("echo the first still goes o$((1))n")
     check("the first still goes o1n" in text, "the first login does not go on at the end")
-    first.type("busybox poweroff -f")
+    first.power_off()
 
 
 def main(words: list[str]) -> int:
@@ -114,7 +120,7 @@ def main(words: list[str]) -> int:
         print(f"\ncensus_logins.py: {error}")
         # The guest is not left behind, if it is still there.
         with contextlib.suppress(OSError):
-            first.type("busybox poweroff -f")
+            first.power_off()
         return 1
     return 0
 
