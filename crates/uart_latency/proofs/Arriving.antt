@@ -1,41 +1,18 @@
 -- Characters arrive in time: none is dropped.
-use Rattle.std.specs.Prelude.{All}
-use Rattle.std.proofs.lemmas.List.Elements.{All-head, All-tail}
-use Rattle.std.proofs.Common.{◌≡◌, ℕ, ◌+◌, ◌-◌, ◌≤◌, ◌<◌, ◌⊎◌, inl, inr, Bool, true, false, not, nat_le, List, [], ◌∷◌, length, refl}
-use Rattle.std.proofs.Common.{sym, ◌∙◌, ap, subst, arith, if◌then◌else◌}
-use Rattle.uart_spec.specs.Access.{Path}
-use Rattle.uart_spec.specs.FifoSize.{characters}
-use Rattle.uart_spec.specs.declared.access.Access.{Access}
-use Rattle.uart_spec.specs.declared.setup.FifoSize.{FifoSize}
-use Rattle.uart_spec.specs.declared.setup.FifoSize.TheVariants.{Sixteen, ThirtyTwo, SixtyFour, OneHundredTwentyEight}
-use Rattle.uart_spec.specs.declared.setup.FifoSize.TheVariants.{TwoHundredFiftySix}
-use Rattle.uart_spec.specs.declared.registers.fifo_trigger_level.FifoTriggerLevel.{FifoTriggerLevel}
-use Rattle.uart_spec.specs.declared.registers.fifo_trigger_level.FifoTriggerLevel.TheVariants.{One, Four, Eight}
-use Rattle.uart_spec.specs.declared.registers.fifo_trigger_level.FifoTriggerLevel.TheVariants.{Fourteen}
-use Rattle.uart_spec.specs.declared.access.Access.TheVariants.{Read, Write}
-use Rattle.uart_events.specs.declared.event.Event.{Event}
-use Rattle.uart_chip.specs.Chip.{ChipState, is_loopback, is_dlab_set, arrive, after_read, after_write}
-use Rattle.uart_chip.specs.Machine.{MachineState, MachineStep, at_access, before_mark}
-use Rattle.uart_chip.specs.Receiver.{ReceiverState, by_level, characters_of}
-use Rattle.uart_chip.proofs.conservation.Receives.{Drop, drop_split}
+use Rattle.uart_latency.proofs.Names.{All, All-head, All-tail, ◌≡◌, ℕ, ◌+◌, ◌-◌, ◌≤◌, ◌<◌, ◌⊎◌, inl, inr, Bool, true, false, List, [], ◌∷◌}
+use Rattle.uart_latency.proofs.Names.{length, refl, sym, ◌∙◌, ap, subst, arith, if◌then◌else◌, Path, characters, Access, FifoSize, Sixteen}
+use Rattle.uart_latency.proofs.Names.{ThirtyTwo, SixtyFour, OneHundredTwentyEight, TwoHundredFiftySix, FifoTriggerLevel, One, Four, Eight}
+use Rattle.uart_latency.proofs.Names.{Fourteen, Read, Write, Event, ChipState, is_loopback, is_dlab_set, arrive, after_read, after_write}
+use Rattle.uart_latency.proofs.Names.{MachineState, MachineStep, at_access, before_mark, ReceiverState, by_level, characters_of, Drop}
+use Rattle.uart_latency.proofs.Names.{drop_split, ring_fields, free, rts_at, RingCall, RingAnswer, RingState, ring_machine, IsOfRings}
+use Rattle.uart_latency.proofs.Names.{RingCallStep, RingLink, RingChain, under, Ready, IsDrop, drop_receivers, false≢true, MakesBlocks}
+use Rattle.uart_latency.proofs.Names.{in_blocks, receiver_of, waits, level, spare, is_below_level, arrived_in, since_level, AllInTime}
 use Rattle.uart_chip.proofs.lasting.Lasting.{LastsInEvents, chip_lasts-before, chip_lasts-before_mark}
-use Rattle.uart_ring.specs.Ring.{ring_fields, free}
-use Rattle.uart_ring.specs.Receive.{rts_at}
-use Rattle.uart_ring_runs.specs.declared.call.RingCall.{RingCall}
 use Rattle.uart_ring_runs.specs.declared.call.RingCall.TheVariants as call
-use Rattle.uart_ring_runs.specs.declared.call.RingAnswer.{RingAnswer}
-use Rattle.uart_ring_runs.specs.RingRun.{RingState, ring_machine, IsOfRings, RingCallStep, RingLink, RingChain, under}
 use Rattle.uart_run.specs.Chains.{calls_of}
-use Rattle.uart_run.specs.Ready.{Ready}
-use Rattle.uart_chip.specs.Conserved.{IsDrop}
-use Rattle.uart_chip.proofs.conservation.SessionLaws.{drop_receivers}
-use Rattle.std.proofs.lemmas.Bool.{false≢true}
-use Rattle.uart_ring_runs.proofs.RingBlocks.{MakesBlocks, in_blocks}
 use Rattle.uart_ring_runs.proofs.RingMeanings.{meaning_of}
-use Rattle.uart_latency.specs.Arrivals.{receiver_of, waits, level, spare, is_below_level, arrived_in, since_level, AllInTime}
-use Rattle.uart_latency.proofs.Moves.{IsTame, IsCalm, Enters, calm_tick, calm_lines, calm_read, calm_write, arrives}
-use Rattle.uart_latency.proofs.Moves.{no_drop_same}
-use Rattle.uart_latency.proofs.Tame.{AllTame, tame_blocks, tame_rts}
+use Rattle.uart_latency.proofs.Moves.{IsCalm, Enters, calm_tick, calm_lines, calm_read, calm_write, arrives}
+use Rattle.uart_latency.proofs.{Moves.no_drop_same, Tame.AllTame, Tame.tame_blocks, Tame.tame_rts}
 
 -- ---- a stretch
 

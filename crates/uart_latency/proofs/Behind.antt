@@ -1,27 +1,15 @@
 -- The receiver of a chip is never so late that a character is dropped.
-use Rattle.std.proofs.Common.{◌≡◌, ℕ, zero, suc, ◌+◌, ◌-◌, ◌*◌, ◌≤◌, ◌<◌, ◌==◌, ◌⊎◌, inl, inr, Bool, true, false, not, nat_le, nat_lt, List}
-use Rattle.std.proofs.Common.{[], ◌∷◌, length, refl, sym, ◌∙◌, ap, subst, arith, if◌then◌else◌}
-use Rattle.std.proofs.lemmas.Grind.{common_steps}
-use Rattle.std.proofs.lemmas.Bool.Decides.{nat_tests}
-use Rattle.std.proofs.Math.Nat.{mul-le-mul_right}
-use Rattle.uart_spec.specs.Access.{Path}
-use Rattle.uart_spec.specs.FifoSize.{characters}
-use Rattle.uart_spec.specs.declared.access.Access.{Access}
-use Rattle.uart_spec.specs.declared.access.Access.TheVariants.{Read, Write}
+use Rattle.uart_latency.proofs.Names.{◌≡◌, ℕ, zero, suc, ◌+◌, ◌-◌, ◌*◌, ◌≤◌, ◌<◌, ◌==◌, ◌⊎◌, inl, inr, Bool, true, false, not, nat_le}
+use Rattle.uart_latency.proofs.Names.{nat_lt, List, [], ◌∷◌, length, refl, sym, ◌∙◌, ap, subst, arith, if◌then◌else◌, common_steps}
+use Rattle.uart_latency.proofs.Names.{nat_tests, mul-le-mul_right, Path, characters, Access, Read, Write, Event, Ticks, Arrive, Lines, Gate}
+use Rattle.uart_latency.proofs.Names.{Mark, ChipState, is_loopback, is_dlab_set, tick, ticks, arrive, change_lines, after_read, after_write}
+use Rattle.uart_latency.proofs.Names.{MachineState, MachineStep, before_access, after_access, at_access, before_mark, after_mark, at_mark}
+use Rattle.uart_latency.proofs.Names.{ReceiverState, characters_of, is_data_pending, Drop, drop_split, some_characters, SpacedAfter}
+use Rattle.uart_latency.proofs.Names.{late_if, late_at, late_to_mark, given_back, IsPrompt, AreSpaced}
 use Rattle.uart_spec.specs.declared.registers.offsets.TheConstants as offsets
-use Rattle.uart_events.specs.declared.event.Event.{Event}
-use Rattle.uart_events.specs.declared.event.Event.TheVariants.{Ticks, Arrive, Lines, Access as Gate, Mark}
-use Rattle.uart_chip.specs.Chip.{ChipState, is_loopback, is_dlab_set, tick, ticks, arrive, change_lines, after_read, after_write}
-use Rattle.uart_chip.specs.Machine.{MachineState, MachineStep, before_access, after_access, at_access, before_mark, after_mark, at_mark}
-use Rattle.uart_chip.specs.Receiver.{ReceiverState, characters_of, is_data_pending}
-use Rattle.uart_chip.proofs.conservation.Receives.{Drop, drop_split}
-use Rattle.uart_chip.proofs.Sizes.{some_characters}
-use Rattle.uart_latency.specs.Ticks.{SpacedAfter, late_if, late_at, late_to_mark, given_back, IsPrompt, AreSpaced}
 use Rattle.uart_latency.proofs.Moves.{IsCalm, calm_tick, calm_lines, calm_read, calm_write, arrives, read_takes}
-use Rattle.uart_latency.proofs.Moves.{calm_none, calm_then, tick_keeps, no_drop_same}
-use Rattle.uart_latency.proofs.Arriving.{level_most}
-use Rattle.uart_latency.proofs.Told.{IsTold, told_tick, told_arrives}
-use Rattle.uart_latency.proofs.Tame.{AllTame}
+use Rattle.uart_latency.proofs.{Moves.calm_none, Moves.calm_then, Moves.tick_keeps, Moves.no_drop_same, Arriving.level_most, Told.IsTold}
+use Rattle.uart_latency.proofs.{Told.told_tick, Told.told_arrives, Tame.AllTame}
 
 -- ---- numbers
 

@@ -1,16 +1,9 @@
 -- Accesses in turn, of which those for a byte take no longer than the byte took to come: only the others make it later.
-use Rattle.std.proofs.Common.{◌≡◌, ℕ, ◌+◌, ◌-◌, ◌*◌, ◌≤◌, ◌||◌, ◌⊎◌, inl, inr, Bool, true, false, List, [], ◌∷◌, ◌++◌, refl}
-use Rattle.std.proofs.Common.{ap, arith, if◌then◌else◌}
-use Rattle.std.proofs.lemmas.Bool.{false≢true}
-use Rattle.std.proofs.Math.Nat.{mul-le-mul_right}
-use Rattle.uart_spec.specs.Access.{Path}
-use Rattle.uart_spec.specs.declared.access.Access.{Access}
-use Rattle.uart_spec.specs.declared.access.Access.TheVariants.{Read, Write}
-use Rattle.uart_chip.specs.Machine.{MachineState, MachineStep}
-use Rattle.uart_latency.specs.Ticks.{late_if, late_at, given_back, AreQuick}
-use Rattle.uart_latency.specs.Ticks.{AreOthersQuick, reads_byte, begins_with_byte, beside}
-use Rattle.uart_latency.proofs.Quick.{most_if, late_most}
-use Rattle.uart_latency.proofs.Visiting.{Goes, GoesOn}
+use Rattle.uart_latency.proofs.Names.{◌≡◌, ℕ, ◌+◌, ◌-◌, ◌*◌, ◌≤◌, ◌||◌, ◌⊎◌, inl, inr, Bool, true, false, List, [], ◌∷◌, ◌++◌, refl, ap}
+use Rattle.uart_latency.proofs.Names.{arith, if◌then◌else◌, false≢true, mul-le-mul_right, Path, Access, Read, Write, MachineState}
+use Rattle.uart_latency.proofs.Names.{MachineStep, late_if, late_at, given_back, AreQuick, AreOthersQuick, reads_byte, begins_with_byte}
+use Rattle.uart_latency.proofs.Names.{beside}
+use Rattle.uart_latency.proofs.{Quick.most_if, Quick.late_most, Visiting.Goes, Visiting.GoesOn}
 
 -- fewer are behind some than in all
 pub beside_back : (front back : List Access) → beside back ≤ beside (front ++ back)

@@ -1,11 +1,7 @@
 -- What is left for a handler is in time.
-use Rattle.std.proofs.Common.{◌≡◌, ℕ, ◌+◌, ◌*◌, ◌<◌, ◌≤◌, Some, Ok, arith, ap}
-use Rattle.uart_spec.specs.Timing.{IsCharacterAnswer, IsHandlerBudget, spare_at}
+use Rattle.uart_latency.proofs.Names.{◌≡◌, ℕ, ◌+◌, ◌*◌, ◌<◌, ◌≤◌, Some, Ok, arith, ap, IsCharacterAnswer, IsHandlerBudget, spare_at}
+use Rattle.uart_latency.proofs.Names.{FifoSize, RingState, spare, IsEarly}
 use Rattle.uart_spec.specs.declared.config.Config.{Config}
-use Rattle.uart_spec.specs.declared.setup.FifoSize.{FifoSize}
-use Rattle.uart_ring_runs.specs.RingRun.{RingState}
-use Rattle.uart_latency.specs.Arrivals.{spare}
-use Rattle.uart_latency.specs.Ticks.{IsEarly}
 
 pub in_time : (config : Config) (size : FifoSize) (e before clocks : ℕ) (s : RingState) →
     spare_at size config.fifo_trigger_level ≡ spare s → IsHandlerBudget config size e before (Ok (Some clocks)) →

@@ -1,53 +1,24 @@
 -- A `handle` is told the receiver's interrupt first, behind at most one line error, and then reads all that waits, or a whole FIFO.
-use Rattle.std.proofs.Common.{◌≡◌, ℕ, zero, suc, ◌+◌, ◌-◌, ◌*◌, ◌≤◌, ◌<◌, ◌⊎◌, inl, inr, Bool, true, false, nat_le, List, [], ◌∷◌, ◌++◌}
-use Rattle.std.proofs.Common.{length, refl, sym, ◌∙◌, ap, subst, arith, append_assoc, append-nil, Option, Some, None, min}
-use Rattle.std.proofs.Common.{Ok}
-use Rattle.std.specs.Prelude.{MatchOption}
-use Rattle.std.proofs.lemmas.Bool.Decides.{nat_tests}
-use Rattle.std.proofs.lemmas.Grind.{common_steps}
-use Rattle.uart_spec.specs.Access.{Path}
-use Rattle.uart_spec.specs.Bits.{has_any}
-use Rattle.uart_spec.specs.declared.access.Access.{Access}
-use Rattle.uart_spec.specs.declared.access.Access.TheVariants.{Read}
+use Rattle.uart_latency.proofs.Names.{◌≡◌, ℕ, zero, suc, ◌+◌, ◌-◌, ◌*◌, ◌≤◌, ◌<◌, ◌⊎◌, inl, inr, Bool, true, false, nat_le, List, [], ◌∷◌}
+use Rattle.uart_latency.proofs.Names.{◌++◌, length, refl, sym, ◌∙◌, ap, subst, arith, append_assoc, append-nil, Option, Some, None, min, Ok}
+use Rattle.uart_latency.proofs.Names.{MatchOption, nat_tests, common_steps, Path, has_any, Access, Read, Settings, InOrder, Hit, Receives}
+use Rattle.uart_latency.proofs.Names.{MachineState, MachineStep, at_access, has_one, ChipState, interrupt, ReceiverState, characters_of}
+use Rattle.uart_latency.proofs.Names.{is_data_pending, path_as, Kept, kept_access, IsOnlyIfAny, characters, InterruptType, RingFields}
+use Rattle.uart_latency.proofs.Names.{RingTimes, free, FillsReceiveRing, NotesLine, mul-le-mul_right, ServesOne, ServesInterrupt, Stops}
+use Rattle.uart_latency.proofs.Names.{Handles, TriesToHandle, HandlesRound, StaysStuck, CountsRound, counts_as, has_moved, unless_stuck}
+use Rattle.uart_latency.proofs.Names.{round_limit, StuckError, HandleEnd, Idle, Handled, named, late_if, late_at, given_back, passing}
+use Rattle.uart_latency.proofs.Names.{IsPrompt, AreQuick, AreOthersQuick, reads, beside, IsQuickHandle}
 use Rattle.uart_spec.specs.declared.registers.interrupt_enable.TheConstants.IER
 use Rattle.uart_spec.specs.declared.registers.line_status.TheConstants.LSR
 use Rattle.uart_spec.specs.declared.registers.offsets.TheConstants as offsets
-use Rattle.uart_16550.specs.Grammar.{Settings, InOrder}
-use Rattle.uart_16550.specs.Receive.{Hit, Receives}
-use Rattle.uart_chip.specs.Machine.{MachineState, MachineStep, at_access}
-use Rattle.uart_chip.proofs.Bits.{has_one}
-use Rattle.uart_chip.specs.Chip.{ChipState, interrupt}
-use Rattle.uart_chip.specs.Receiver.{ReceiverState, characters_of, is_data_pending}
 use Rattle.uart_chip.proofs.FifoBits.{isr_of}
-use Rattle.uart_chip.proofs.conservation.BlockLaws.{path_as}
-use Rattle.uart_run.proofs.Latches.{Kept, kept_access}
 use Rattle.uart_run.proofs.initialising.FifoShown.{shows_64}
-use Rattle.uart_spec.specs.Bits.{IsOnlyIfAny}
 use Rattle.uart_spec.specs.Fields.{Identifies}
-use Rattle.uart_spec.specs.FifoSize.{characters}
-use Rattle.uart_spec.specs.declared.registers.interrupt_type.InterruptType.{InterruptType}
 use Rattle.uart_spec.specs.declared.registers.interrupt_type.InterruptType.TheVariants as interrupts
-use Rattle.uart_ring.specs.Ring.{RingFields, RingTimes, free}
-use Rattle.uart_ring.specs.Receive.{FillsReceiveRing}
-use Rattle.uart_ring.specs.Status.{NotesLine}
-use Rattle.std.proofs.Math.Nat.{mul-le-mul_right}
-use Rattle.uart_ring.specs.Service.{ServesOne, ServesInterrupt, Stops}
-use Rattle.uart_ring.specs.Handle.{Handles}
-use Rattle.uart_ring.specs.Storm.{TriesToHandle, HandlesRound, StaysStuck, CountsRound, counts_as, has_moved, unless_stuck, round_limit}
-use Rattle.uart_ring.specs.declared.ring.storm.StuckError.{StuckError}
-use Rattle.uart_ring.specs.declared.ring.service.HandleEnd.{HandleEnd}
-use Rattle.uart_ring.specs.declared.ring.service.HandleEnd.TheVariants.{Idle}
-use Rattle.uart_ring.specs.declared.ring.service.Handled.{Handled}
-use Rattle.uart_ring_runs.proofs.RingEdges.{named}
 use Rattle.uart_ring_runs.proofs.Served.{shown}
-use Rattle.uart_latency.specs.Ticks.{late_if, late_at, given_back, passing, IsPrompt, AreQuick}
-use Rattle.uart_latency.specs.Ticks.{AreOthersQuick, reads, beside, IsQuickHandle}
-use Rattle.uart_latency.proofs.Behind.{After, IsEarlyAt, after_before, pending_is}
-use Rattle.uart_latency.proofs.Beside.{beside_back, beside_goes, beside_prompt}
-use Rattle.uart_latency.proofs.Quick.{most_if, late_most}
-use Rattle.uart_latency.proofs.Telling.{IsReached, pending, behind_line}
-use Rattle.uart_latency.proofs.Told.{first_told}
-use Rattle.uart_latency.proofs.Visiting.{GoesOn, fronts, visits_on}
+use Rattle.uart_latency.proofs.{Behind.After, Behind.IsEarlyAt, Behind.after_before, Behind.pending_is, Beside.beside_back}
+use Rattle.uart_latency.proofs.{Beside.beside_goes, Beside.beside_prompt, Quick.most_if, Quick.late_most, Telling.IsReached}
+use Rattle.uart_latency.proofs.{Telling.pending, Telling.behind_line, Told.first_told, Visiting.GoesOn, Visiting.fronts, Visiting.visits_on}
 
 -- ---- lists
 

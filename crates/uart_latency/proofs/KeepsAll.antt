@@ -1,23 +1,12 @@
 -- If no character is dropped, all that arrived is kept.
-use Rattle.std.proofs.Common.{◌≡◌, ℕ, ◌+◌, ◌≤◌, Bool, true, false, List, [], ◌∷◌, ◌++◌, map, refl, sym, ◌∙◌, ap, arith}
-use Rattle.std.specs.List.{filter}
-use Rattle.std.proofs.lemmas.List.Elements.{filter-append}
+use Rattle.uart_latency.proofs.Names.{◌≡◌, ℕ, ◌+◌, ◌≤◌, Bool, true, false, List, [], ◌∷◌, ◌++◌, map, refl, ◌∙◌, ap, arith, filter}
+use Rattle.uart_latency.proofs.Names.{filter-append, Event, Ticks, Arrive, Lines, Gate, Mark, Character, Arrived, cut_of, MachineState}
+use Rattle.uart_latency.proofs.Names.{ReceiverState, mark_at, IsDrop, origin_stands, stands, arriving, cut_character, between, entered}
+use Rattle.uart_latency.proofs.Names.{kept, RingState, RingLink, ring_machine, to_take, OwnConserves, KeepsAll}
 use Rattle.uart_events.specs.declared.event.ArrivalMark.TheVariants.{Pending}
-use Rattle.uart_events.specs.declared.event.Event.{Event}
-use Rattle.uart_events.specs.declared.event.Event.TheVariants.{Ticks, Arrive, Lines, Access as Gate, Mark}
-use Rattle.uart_chip.specs.declared.receiver.Character.{Character}
 use Rattle.uart_chip.specs.declared.receiver.Origin.{Origin}
-use Rattle.uart_chip.specs.declared.receiver.Origin.TheVariants.{Arrived}
-use Rattle.uart_chip.specs.Chip.{cut_of}
-use Rattle.uart_chip.specs.Machine.{MachineState}
-use Rattle.uart_chip.specs.Receiver.{ReceiverState, mark_at}
-use Rattle.uart_chip.specs.Conserved.{IsDrop, origin_stands, stands, waiting, arriving, cut_character, between, entered, kept}
 use Rattle.uart_chip.specs.Sound.{AllInQueue, IsSound}
 use Rattle.uart_chip.proofs.conservation.Moves.{waits_stands}
-use Rattle.uart_ring_runs.specs.RingRun.{RingState, RingLink, ring_machine}
-use Rattle.uart_ring_runs.specs.RingBytes.{to_take}
-use Rattle.uart_ring_runs.specs.OwnSession.{OwnConserves}
-use Rattle.uart_latency.specs.Arrivals.{KeepsAll}
 
 -- whatever was not dropped at first is not dropped later
 abbrev AllStand : (r s : ReceiverState) → Type 0

@@ -1,3 +1,4 @@
+mod Names
 pub mod Moves
 pub mod Tame
 pub mod Arriving

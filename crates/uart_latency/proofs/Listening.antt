@@ -1,59 +1,34 @@
 -- DATA_READY stays enabled while receiving is not paused: nobody else than a full receive ring disables it, and a chip that is stuck.
-use Rattle.std.proofs.Common.{◌≡◌, ℕ, zero, suc, ◌==◌, ◌||◌, Bool, true, false, not, MatchBool, nat_lt, List, [], ◌∷◌, ◌++◌, length, take}
-use Rattle.std.proofs.Common.{min, refl, sym, ◌∙◌, ap, subst, if◌then◌else◌, Option, Some, None, Result, Err, bit_and, bit_or}
-use Rattle.std.proofs.Common.{inl, inr}
-use Rattle.std.specs.List.{AllByRecursion}
-use Rattle.std.specs.Prelude.{MatchOption}
+use Rattle.uart_latency.proofs.Names.{◌≡◌, ℕ, zero, suc, ◌==◌, ◌||◌, Bool, true, false, not, MatchBool, nat_lt, List, [], ◌∷◌, ◌++◌, length}
+use Rattle.uart_latency.proofs.Names.{take, min, refl, sym, ◌∙◌, ap, subst, if◌then◌else◌, Option, Some, None, Result, Err, bit_and, bit_or}
+use Rattle.uart_latency.proofs.Names.{inl, inr, AllByRecursion, MatchOption, false≢true, Path, has, has_any, characters, Access, Read}
+use Rattle.uart_latency.proofs.Names.{Write, InterruptType, switched, unlooped, Settings, Then, Asks, InOrder, Receives, Hit, is_dlab_set}
+use Rattle.uart_latency.proofs.Names.{MachineState, MachineStep, at_mark, ier_bits, has_and, has_or, each-append, path_as, path_split, Kept}
+use Rattle.uart_latency.proofs.Names.{kept_in, keep, kept_after, kept_step, kept_path, kept_list, kept-before_mark, Implies, RingDoing}
+use Rattle.uart_latency.proofs.Names.{RingFields, OnDriver, Stays, RingSets, RingNext, RingTimes, IfAny, free, is_full, sendable}
+use Rattle.uart_latency.proofs.Names.{without_sent, without_taken, with_received, with_queued, with_hold, with_urgent, with_low_mark}
+use Rattle.uart_latency.proofs.Names.{with_low, with_rounds, with_paused, cleared, unchanged, with_told_xoff, looked, restarted, ArmsIfLeft}
+use Rattle.uart_latency.proofs.Names.{Pumps, Queues, ResumesTransmit, Holds, Releases, QueuesUrgent, ClearsTransmit, SetsLowMark, TakesLow}
+use Rattle.uart_latency.proofs.Names.{PausesIfFull, FillsReceiveRing, EndsPause, TakesBytes, ClearsReceive, write_if_other, MakesRtsIfAny}
+use Rattle.uart_latency.proofs.Names.{AdjustsRts, rts_at, flow_character, TellsIfAny, AdjustsXoff, xon, Obeys, ObeysXoff, TakesLine}
+use Rattle.uart_latency.proofs.Names.{TakesModem, ShowsInterrupt, ServesInterrupt, ServesOne, Stops, ServesUpTo, Services, Retriggers}
+use Rattle.uart_latency.proofs.Names.{RetriggersUnlessIdle, Handles, LooksOnceMore, CountsUnfinished, CountsRound, HandlesRound, StaysStuck}
+use Rattle.uart_latency.proofs.Names.{TriesToHandle, Restarts, not_paused, counts_as, has_moved, unless_stuck, round_limit, ReceiveMarks}
+use Rattle.uart_latency.proofs.Names.{StuckError, HandleEnd, Idle, Unknown, Limit, Handled, at_marks}
 use Rattle.std.proofs.Math.Bool.{or-true}
-use Rattle.std.proofs.lemmas.Bool.{false≢true}
-use Rattle.uart_spec.specs.Access.{Path}
-use Rattle.uart_spec.specs.Bits.{has, has_any}
-use Rattle.uart_spec.specs.FifoSize.{characters}
-use Rattle.uart_spec.specs.declared.access.Access.{Access}
-use Rattle.uart_spec.specs.declared.access.Access.TheVariants.{Read, Write}
 use Rattle.uart_spec.specs.declared.errors.ByteSendError.TheVariants.{NoCapacity, RemoteNotClearToSend}
 use Rattle.uart_spec.specs.declared.registers.interrupt_enable.TheConstants.IER
-use Rattle.uart_spec.specs.declared.registers.interrupt_type.InterruptType.{InterruptType}
 use Rattle.uart_spec.specs.declared.registers.interrupt_type.InterruptType.TheVariants as interrupts
 use Rattle.uart_spec.specs.declared.registers.line_control.TheConstants.LCR
 use Rattle.uart_spec.specs.declared.registers.line_status.TheConstants.LSR
 use Rattle.uart_spec.specs.declared.registers.modem_control.TheConstants.MCR
 use Rattle.uart_spec.specs.declared.registers.offsets.TheConstants as offsets
 use Rattle.uart_16550.specs.Driver.{Fields, Saving, settings_of}
-use Rattle.uart_16550.specs.Frame.{switched, unlooped}
-use Rattle.uart_16550.specs.Grammar.{Settings, Then, Asks, InOrder}
-use Rattle.uart_16550.specs.Receive.{Receives, Hit}
 use Rattle.uart_16550.specs.Transmit.{Sends, SendHit, SendMiss, LinesAllow, data_writes}
 use Rattle.uart_16550.specs.Status as status
-use Rattle.uart_chip.specs.Chip.{is_dlab_set}
-use Rattle.uart_chip.specs.Machine.{MachineState, MachineStep, at_mark}
-use Rattle.uart_chip.specs.Masks.{ier_bits}
-use Rattle.uart_chip.proofs.Bits.{has_and, has_or}
-use Rattle.uart_chip.proofs.Lists.{each-append}
-use Rattle.uart_chip.proofs.conservation.BlockLaws.{path_as, path_split}
-use Rattle.uart_run.proofs.Latches.{Kept, kept_in, keep, kept_after, kept_step, kept_path, kept_list, kept-before_mark}
-use Rattle.uart_ring.specs.Lossless.{Implies}
-use Rattle.uart_ring.specs.Ring.{RingDoing, RingFields, OnDriver, Stays, RingSets, RingNext, RingTimes, IfAny, free}
-use Rattle.uart_ring.specs.Ring.{is_full, waiting, sendable, without_sent, without_taken, with_received, with_queued, with_hold}
-use Rattle.uart_ring.specs.Ring.{with_urgent, with_low_mark, with_low, with_rounds, with_paused, cleared, unchanged}
-use Rattle.uart_ring.specs.Ring.{with_told_xoff, looked, restarted}
-use Rattle.uart_ring.specs.Transmit.{ArmsIfLeft, Pumps, Queues, ResumesTransmit, Holds, Releases, QueuesUrgent, ClearsTransmit}
-use Rattle.uart_ring.specs.Transmit.{SetsLowMark, TakesLow}
-use Rattle.uart_ring.specs.Receive.{PausesIfFull, FillsReceiveRing, EndsPause, TakesBytes, ClearsReceive, write_if_other, MakesRtsIfAny}
-use Rattle.uart_ring.specs.Receive.{AdjustsRts, rts_at, flow_character, TellsIfAny, AdjustsXoff, xon, Obeys, ObeysXoff}
-use Rattle.uart_ring.specs.Status.{TakesLine, TakesModem}
-use Rattle.uart_ring.specs.Service.{ShowsInterrupt, ServesInterrupt, ServesOne, Stops, ServesUpTo, Services}
-use Rattle.uart_ring.specs.Handle.{Retriggers, RetriggersUnlessIdle, Handles}
-use Rattle.uart_ring.specs.Storm.{LooksOnceMore, CountsUnfinished, CountsRound, HandlesRound, StaysStuck, TriesToHandle, Restarts}
-use Rattle.uart_ring.specs.Storm.{not_paused, counts_as, has_moved, unless_stuck, round_limit}
-use Rattle.uart_ring.specs.declared.ring.receive.ReceiveMarks.{ReceiveMarks}
-use Rattle.uart_ring.specs.declared.ring.storm.StuckError.{StuckError}
+use Rattle.uart_ring.specs.Ring.{waiting}
 use Rattle.uart_ring.specs.declared.ring.service.TheConstants.{MAX_INTERRUPTS}
-use Rattle.uart_ring.specs.declared.ring.service.HandleEnd.{HandleEnd}
-use Rattle.uart_ring.specs.declared.ring.service.HandleEnd.TheVariants.{Idle, Unknown, Limit}
-use Rattle.uart_ring.specs.declared.ring.service.Handled.{Handled}
 use Rattle.uart_ring.proofs.Pausing.{joined_with, rid_of}
-use Rattle.uart_ring.proofs.Rts.{at_marks}
 use Rattle.uart_ring_runs.proofs.RingDue.{IsDlabOff, ier_answer, off_step}
 
 -- DLAB is off, and DATA_READY is enabled unless receiving is paused

@@ -1,26 +1,17 @@
 -- What accesses and events do to the receiver, while the FIFO is on, loopback is off and nobody resets the FIFO.
-use Rattle.std.proofs.Common.{◌≡◌, ℕ, ◌+◌, ◌-◌, ◌≤◌, ◌<◌, ◌==◌, ◌⊎◌, inl, inr, Bool, true, false, nat_lt, List, [], ◌∷◌, length, refl}
-use Rattle.std.proofs.Common.{sym, ◌∙◌, ap, subst, arith, if◌then◌else◌, length-append}
-use Rattle.std.proofs.lemmas.Grind.{common_steps}
+use Rattle.uart_latency.proofs.Names.{◌≡◌, ℕ, ◌+◌, ◌≤◌, ◌<◌, ◌==◌, ◌⊎◌, inl, inr, Bool, true, false, nat_lt, List, [], ◌∷◌, length, refl}
+use Rattle.uart_latency.proofs.Names.{sym, ◌∙◌, ap, subst, arith, if◌then◌else◌, length-append, common_steps, has_any, characters, Access}
+use Rattle.uart_latency.proofs.Names.{Read, Write, Character, Arrived, ChipState, is_loopback, is_held_off, is_dlab_set, interrupt}
+use Rattle.uart_latency.proofs.Names.{is_thr_empty, tick, arrive, change_lines, after_read, after_write, cut_of, control_modem}
+use Rattle.uart_latency.proofs.Names.{with_latches, origin_stands, kept_mcr, ReceiverState, take_front, report, grow_timeout, Drop}
+use Rattle.uart_latency.proofs.Names.{drop_split, no_drop-set}
 use Rattle.uart_events.specs.declared.event.ArrivalMark.TheVariants as marks
-use Rattle.uart_spec.specs.Bits.{has_any}
-use Rattle.uart_spec.specs.FifoSize.{characters}
-use Rattle.uart_spec.specs.declared.access.Access.{Access}
-use Rattle.uart_spec.specs.declared.access.Access.TheVariants.{Read, Write}
 use Rattle.uart_spec.specs.declared.registers.modem_control.TheConstants.MCR
 use Rattle.uart_spec.specs.declared.registers.offsets.TheConstants as offsets
-use Rattle.uart_chip.specs.declared.receiver.Character.{Character}
-use Rattle.uart_chip.specs.declared.receiver.Origin.TheVariants.{Arrived}
-use Rattle.uart_chip.specs.Chip.{ChipState, is_loopback, is_held_off, is_dlab_set, interrupt, is_thr_empty, tick, arrive}
-use Rattle.uart_chip.specs.Chip.{change_lines, after_read, after_write, cut_of, control_modem, with_latches}
-use Rattle.uart_chip.specs.Conserved.{origin_stands}
-use Rattle.uart_chip.specs.Masks.{kept_mcr}
 use Rattle.uart_chip.specs.Receiver as receiver
-use Rattle.uart_chip.specs.Receiver.{ReceiverState, take_front, report, grow_timeout}
 use Rattle.uart_chip.specs.Transmitter as transmitter
 use Rattle.uart_chip.specs.Transmitter.{looped_byte}
 use Rattle.uart_chip.proofs.McrBits.{kept_bit}
-use Rattle.uart_chip.proofs.conservation.Receives.{Drop, drop_split, no_drop-set}
 
 -- ---- accesses that reset nothing
 

@@ -1,35 +1,16 @@
 -- A session in which the receiver is never late drops nothing.
-use Rattle.std.proofs.Common.{◌≡◌, ℕ, ◌+◌, ◌-◌, ◌*◌, ◌≤◌, ◌<◌, ◌==◌, Bool, true, false, List, [], ◌∷◌}
-use Rattle.std.proofs.Common.{sym, subst, Option, Some, None, MatchBool}
-use Rattle.uart_spec.specs.Bits.{has_any}
-use Rattle.uart_spec.specs.FifoSize.{characters}
+use Rattle.uart_latency.proofs.Names.{◌≡◌, ℕ, ◌+◌, ◌-◌, ◌*◌, ◌≤◌, ◌<◌, ◌==◌, Bool, true, false, List, [], ◌∷◌, sym, subst, Option, Some}
+use Rattle.uart_latency.proofs.Names.{None, MatchBool, has_any, characters, IsDrop, MachineStep, ReceiverState, characters_of}
+use Rattle.uart_latency.proofs.Names.{drop_receivers, Ready, Handles, Implies, Idle, Handled, RingDoing, RingDid, ring_fields, free}
+use Rattle.uart_latency.proofs.Names.{with_told_xoff, looked, rts_at, flow_character, TellsIfAny, AdjustsXoff, xon, Obeys, ObeysXoff, Holds}
+use Rattle.uart_latency.proofs.Names.{Releases, ReceiveMarks, at_marks, RingAnswer, RingCall, RingState, RingLink, RingChain, RingCallStep}
+use Rattle.uart_latency.proofs.Names.{ring_machine, under, MakesRingBlocks, MakesBlocks, in_blocks, receiver_of, is_below_level, AreSpaced}
+use Rattle.uart_latency.proofs.Names.{AreOthersQuick, IsPromptDid, IsPromptCall, ArePrompt, IsQuickHandle, IsEarly, beside, late_at}
 use Rattle.uart_spec.specs.declared.registers.interrupt_enable.TheConstants.IER
-use Rattle.uart_chip.specs.Conserved.{IsDrop}
-use Rattle.uart_chip.specs.Machine.{MachineStep}
-use Rattle.uart_chip.specs.Receiver.{ReceiverState, characters_of}
-use Rattle.uart_chip.proofs.conservation.SessionLaws.{drop_receivers}
-use Rattle.uart_run.specs.Ready.{Ready}
-use Rattle.uart_ring.specs.Handle.{Handles}
-use Rattle.uart_ring.specs.Lossless.{Implies}
-use Rattle.uart_ring.specs.declared.ring.service.HandleEnd.TheVariants.{Idle}
-use Rattle.uart_ring.specs.declared.ring.service.Handled.{Handled}
-use Rattle.uart_ring.specs.Ring.{RingDoing, RingDid, ring_fields, free, with_told_xoff, looked}
-use Rattle.uart_ring.specs.Receive.{rts_at, flow_character, TellsIfAny, AdjustsXoff, xon, Obeys, ObeysXoff}
-use Rattle.uart_ring.specs.Transmit.{Holds, Releases}
-use Rattle.uart_ring.specs.declared.ring.receive.ReceiveMarks.{ReceiveMarks}
-use Rattle.uart_ring.proofs.Rts.{at_marks}
-use Rattle.uart_ring_runs.specs.declared.call.RingAnswer.{RingAnswer}
-use Rattle.uart_ring_runs.specs.declared.call.RingCall.{RingCall}
 use Rattle.uart_ring_runs.specs.declared.call.RingCall.TheVariants as call
-use Rattle.uart_ring_runs.specs.RingRun.{RingState, RingLink, RingChain, RingCallStep, ring_machine, under}
-use Rattle.uart_ring_runs.proofs.RingBlocks.{MakesRingBlocks, MakesBlocks, in_blocks}
 use Rattle.uart_ring_runs.proofs.RingWalk as walk
-use Rattle.uart_latency.specs.Arrivals.{receiver_of, is_below_level}
-use Rattle.uart_latency.specs.Ticks.{AreSpaced, AreOthersQuick, IsPromptDid, IsPromptCall, ArePrompt}
-use Rattle.uart_latency.specs.Ticks.{IsQuickHandle, IsEarly, beside, late_at}
-use Rattle.uart_latency.proofs.Behind.{IsEarlyAt, prompt_path, prompt_mark, early_first}
-use Rattle.uart_latency.proofs.Handling.{handle_in_time}
-use Rattle.uart_latency.proofs.Tame.{tame_blocks, tame_rts}
+use Rattle.uart_latency.proofs.{Behind.IsEarlyAt, Behind.prompt_path, Behind.prompt_mark, Behind.early_first, Handling.handle_in_time}
+use Rattle.uart_latency.proofs.{Tame.tame_blocks, Tame.tame_rts}
 
 -- ---- the calls that tell the other end to stop, or are told
 

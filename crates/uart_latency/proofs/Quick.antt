@@ -1,14 +1,8 @@
 -- How late accesses are found that follow each other soon.
-use Rattle.std.proofs.Common.{ℕ, ◌+◌, ◌-◌, ◌*◌, ◌≤◌, Bool, true, false, List, [], ◌∷◌, ◌++◌, length, refl, arith, if◌then◌else◌}
-use Rattle.uart_spec.specs.Access.{Path}
-use Rattle.uart_spec.specs.declared.access.Access.{Access}
-use Rattle.uart_events.specs.declared.event.Event.{Event}
-use Rattle.uart_events.specs.declared.event.Event.TheVariants.{Ticks, Arrive, Lines, Access as Gate, Mark}
-use Rattle.uart_chip.specs.Chip.{ChipState, tick}
-use Rattle.uart_chip.specs.Machine.{MachineState, MachineStep, perform}
-use Rattle.uart_chip.specs.Receiver.{is_data_pending}
-use Rattle.uart_latency.specs.Ticks.{late_if, late_by, late_at, late_to_mark, ticks_of, given_back, passing, IsPrompt, AreBetween}
-use Rattle.uart_latency.specs.Ticks.{AreQuick, AreOthersQuick}
+use Rattle.uart_latency.proofs.Names.{ℕ, ◌+◌, ◌-◌, ◌*◌, ◌≤◌, Bool, true, false, List, [], ◌∷◌, ◌++◌, length, refl, arith, if◌then◌else◌}
+use Rattle.uart_latency.proofs.Names.{Path, Access, Event, Ticks, Arrive, Lines, Gate, Mark, ChipState, tick, MachineState, MachineStep}
+use Rattle.uart_latency.proofs.Names.{perform, is_data_pending, late_if, late_by, late_at, late_to_mark, ticks_of, given_back, passing}
+use Rattle.uart_latency.proofs.Names.{IsPrompt, AreBetween, AreQuick, AreOthersQuick}
 
 pub most_if : (late : ℕ) (c : ChipState) → late_if late c ≤ late
 most_if late c = go (is_data_pending c.fifo c.receiver)

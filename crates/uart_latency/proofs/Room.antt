@@ -1,21 +1,9 @@
 -- The receive ring has room for a whole FIFO, if `take` comes often enough; and the two tables of trigger levels are the same.
-use Rattle.std.proofs.Common.{◌≡◌, ℕ, ◌+◌, ◌≤◌, Bool, true, false, List, [], ◌∷◌, ◌++◌, length, length-append, refl, ap, arith}
-use Rattle.std.specs.List.{filter}
+use Rattle.uart_latency.proofs.Names.{◌≡◌, ℕ, ◌+◌, ◌≤◌, Bool, true, false, List, [], ◌∷◌, ◌++◌, length, length-append, refl, ap, arith}
+use Rattle.uart_latency.proofs.Names.{filter, characters_at, FifoTriggerLevel, One, FifoSize, Sixteen, ThirtyTwo, SixtyFour}
+use Rattle.uart_latency.proofs.Names.{OneHundredTwentyEight, TwoHundredFiftySix, Character, entered, kept, stands, waiting, MachineState}
+use Rattle.uart_latency.proofs.Names.{characters_of, ring_fields, free, OwnConserves, gone, to_take, RingState, RingLink, ring_machine}
 use Rattle.std.proofs.lemmas.List.{length-map}
-use Rattle.uart_spec.specs.Timing.{characters_at}
-use Rattle.uart_spec.specs.declared.registers.fifo_trigger_level.FifoTriggerLevel.{FifoTriggerLevel}
-use Rattle.uart_spec.specs.declared.registers.fifo_trigger_level.FifoTriggerLevel.TheVariants.{One}
-use Rattle.uart_spec.specs.declared.setup.FifoSize.{FifoSize}
-use Rattle.uart_spec.specs.declared.setup.FifoSize.TheVariants.{Sixteen, ThirtyTwo, SixtyFour, OneHundredTwentyEight}
-use Rattle.uart_spec.specs.declared.setup.FifoSize.TheVariants.{TwoHundredFiftySix}
-use Rattle.uart_chip.specs.declared.receiver.Character.{Character}
-use Rattle.uart_chip.specs.Conserved.{entered, kept, stands, waiting}
-use Rattle.uart_chip.specs.Machine.{MachineState}
-use Rattle.uart_chip.specs.Receiver.{characters_of}
-use Rattle.uart_ring.specs.Ring.{ring_fields, free}
-use Rattle.uart_ring_runs.specs.OwnSession.{OwnConserves}
-use Rattle.uart_ring_runs.specs.RingBytes.{gone, to_take}
-use Rattle.uart_ring_runs.specs.RingRun.{RingState, RingLink, ring_machine}
 
 -- ---- the receive ring
 

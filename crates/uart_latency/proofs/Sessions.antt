@@ -1,36 +1,17 @@
 -- A session whose handler comes in time drops nothing, and DATA_READY stays enabled in it.
-use Rattle.std.proofs.Common.{◌≡◌, ℕ, ◌+◌, ◌-◌, ◌*◌, ◌<◌, inl, inr, Bool, true, List, [], ◌∷◌, sym, ◌∙◌}
-use Rattle.std.proofs.Common.{ap, subst, Result}
-use Rattle.uart_spec.specs.Access.{Path}
-use Rattle.uart_spec.specs.FifoSize.{characters}
-use Rattle.uart_spec.specs.declared.access.Access.{Access}
-use Rattle.uart_chip.specs.Conserved.{IsDrop}
-use Rattle.uart_chip.specs.Machine.{MachineState, MachineStep}
-use Rattle.uart_chip.specs.Receiver.{ReceiverState, characters_of}
-use Rattle.uart_chip.proofs.conservation.Receives.{Drop}
-use Rattle.uart_chip.proofs.conservation.SessionLaws.{drop_receivers}
-use Rattle.uart_run.specs.Ready.{Ready}
-use Rattle.uart_ring.specs.Handle.{Handles}
-use Rattle.uart_ring.specs.Lossless.{Implies}
-use Rattle.uart_ring.specs.Ring.{RingDoing, RingDid, RingFields, ring_fields}
-use Rattle.uart_ring.specs.Storm.{TriesToHandle, round_limit}
-use Rattle.uart_ring.specs.declared.ring.service.Handled.{Handled}
-use Rattle.uart_ring.specs.declared.ring.storm.StuckError.{StuckError}
-use Rattle.uart_ring_runs.specs.declared.call.RingAnswer.{RingAnswer}
+use Rattle.uart_latency.proofs.Names.{◌≡◌, ℕ, ◌+◌, ◌-◌, ◌*◌, ◌<◌, inl, inr, Bool, true, List, [], ◌∷◌, sym, ◌∙◌, ap, subst, Result, Path}
+use Rattle.uart_latency.proofs.Names.{characters, Access, IsDrop, MachineState, MachineStep, ReceiverState, characters_of, Drop}
+use Rattle.uart_latency.proofs.Names.{drop_receivers, Ready, Handles, Implies, RingDoing, RingDid, RingFields, ring_fields, TriesToHandle}
+use Rattle.uart_latency.proofs.Names.{round_limit, Handled, StuckError, RingAnswer, RingCall, RingState, RingLink, RingChain, RingCallStep}
+use Rattle.uart_latency.proofs.Names.{ring_machine, under, receiver_of, is_below_level, late_if, late_at, given_back, IsPrompt}
+use Rattle.uart_latency.proofs.Names.{IsPromptCall, AreSpaced, IsEarly}
 use Rattle.uart_ring_runs.specs.declared.call.RingAnswer.TheVariants.{Tried}
-use Rattle.uart_ring_runs.specs.declared.call.RingCall.{RingCall}
 use Rattle.uart_ring_runs.specs.declared.call.RingCall.TheVariants as call
-use Rattle.uart_ring_runs.specs.RingRun.{RingState, RingLink, RingChain, RingCallStep, ring_machine, under}
-use Rattle.uart_latency.specs.Arrivals.{receiver_of, is_below_level}
-use Rattle.uart_latency.specs.Ticks.{late_if, late_at, given_back, IsPrompt, IsPromptCall, AreSpaced, IsEarly}
 use Rattle.uart_latency.specs.Timely.{IsListening, LeavesListening, AllLeaveListening, IsLateAfter, IsQuickCall, IsVisit, IsTimelyCall}
 use Rattle.uart_latency.specs.Timely.{AreTimely}
-use Rattle.uart_latency.proofs.Behind.{IsEarlyAt}
-use Rattle.uart_latency.proofs.Handling.{handle_in_time, tries_idle}
+use Rattle.uart_latency.proofs.{Behind.IsEarlyAt, Handling.handle_in_time, Handling.tries_idle, Listening.Listens, Listening.Keeps}
+use Rattle.uart_latency.proofs.{Prompt.prompt_call, Prompt.early_session, Quick.quick_prompt}
 use Rattle.uart_latency.proofs.Listening as listening
-use Rattle.uart_latency.proofs.Listening.{Listens, Keeps}
-use Rattle.uart_latency.proofs.Prompt.{prompt_call, early_session}
-use Rattle.uart_latency.proofs.Quick.{quick_prompt}
 
 -- ---- DATA_READY
 

@@ -1,29 +1,11 @@
 -- The calls of the rings themselves reset nothing: their accesses, one call after the other.
-use Rattle.std.proofs.Common.{◌≡◌, ℕ, ◌==◌, ◌||◌, Bool, true, false, List, [], ◌∷◌, map, refl, sym, subst, arith, Option, Some, None}
-use Rattle.std.specs.List.{AllByRecursion}
-use Rattle.std.proofs.lemmas.Bool.Decides.{nat_tests}
-use Rattle.uart_spec.specs.Access.{Path}
-use Rattle.uart_spec.specs.Bits.{has}
-use Rattle.uart_spec.specs.declared.access.Access.{Access}
-use Rattle.uart_spec.specs.declared.access.Access.TheVariants.{Read, Write}
+use Rattle.uart_latency.proofs.Names.{◌≡◌, ℕ, ◌==◌, ◌||◌, Bool, true, false, List, [], ◌∷◌, map, refl, sym, subst, arith, Option, Some}
+use Rattle.uart_latency.proofs.Names.{None, AllByRecursion, nat_tests, has, Access, Read, Write, switched, unlooped, has_not, each-append}
+use Rattle.uart_latency.proofs.Names.{RingFields, write_if_other, MakesRtsIfAny, AllLeaveLcr, MakesRingBlocks}
 use Rattle.uart_spec.specs.declared.registers.modem_control.TheConstants.MCR
 use Rattle.uart_spec.specs.declared.registers.offsets.TheConstants as offsets
-use Rattle.uart_16550.specs.Driver.{settings_of}
-use Rattle.uart_16550.specs.Frame.{switched, unlooped}
-use Rattle.uart_chip.specs.Machine.{MachineStep}
-use Rattle.uart_chip.proofs.Bits.{has_not}
-use Rattle.uart_chip.proofs.Lists.{each-append}
 use Rattle.uart_chip.proofs.conservation.Blocks.{is_quiet, Block, Look, Hit, Burst, Other, Divisor, accesses_of, AllQuiet, IsFit}
 use Rattle.uart_chip.proofs.conservation.Blocks.{AllFit, flat}
-use Rattle.uart_run.proofs.CallBlocks.{most_in}
-use Rattle.uart_ring.specs.Ring.{RingFields, ring_fields, free}
-use Rattle.uart_ring.specs.Receive.{rts_at, write_if_other, MakesRtsIfAny}
-use Rattle.uart_ring_runs.specs.declared.call.RingCall.{RingCall}
-use Rattle.uart_ring_runs.specs.declared.call.RingCall.TheVariants as call
-use Rattle.uart_ring_runs.specs.declared.call.RingAnswer.{RingAnswer}
-use Rattle.uart_ring_runs.specs.RingRun.{RingState, ring_machine, IsOfRings, RingCallStep}
-use Rattle.uart_ring_runs.proofs.RingBlocks.{AllLeaveLcr, LeavesLcr, MakesBlocks, in_blocks, MakesRingBlocks}
-use Rattle.uart_ring_runs.proofs.RingMeanings.{Meant, meaning_of}
 use Rattle.uart_latency.proofs.Moves.{IsTame}
 
 abbrev pub AllTame : List Access → Type 0

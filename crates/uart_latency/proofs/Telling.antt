@@ -1,23 +1,13 @@
 -- A handler that finds as many characters waiting as the trigger level is told the receiver's interrupt, behind at most one line error.
-use Rattle.std.proofs.Common.{◌≡◌, ℕ, ◌+◌, ◌-◌, ◌*◌, ◌≤◌, ◌<◌, Bool, true, false, nat_le, length, refl, sym, ◌∙◌, ap, subst, inl}
-use Rattle.std.proofs.Common.{arith, if◌then◌else◌, Some}
-use Rattle.std.proofs.lemmas.Bool.Decides.{nat_tests}
-use Rattle.uart_spec.specs.Bits.{has_any}
-use Rattle.uart_spec.specs.FifoSize.{characters}
-use Rattle.uart_spec.specs.declared.access.Access.TheVariants.{Read}
+use Rattle.uart_latency.proofs.Names.{◌≡◌, ℕ, ◌+◌, ◌-◌, ◌*◌, ◌≤◌, ◌<◌, Bool, true, false, nat_le, length, refl, sym, ◌∙◌, ap, subst, inl}
+use Rattle.uart_latency.proofs.Names.{arith, if◌then◌else◌, Some, nat_tests, has_any, characters, Read, ReceivedDataReady, ChipState}
+use Rattle.uart_latency.proofs.Names.{interrupt, is_thr_empty, with_thr_pending, after_read, MachineState, MachineStep, at_access}
+use Rattle.uart_latency.proofs.Names.{ReceiverState, characters_of, is_data_pending, report, some_characters, Kept, kept_access, kept_step}
+use Rattle.uart_latency.proofs.Names.{late_if, late_at, passing}
 use Rattle.uart_spec.specs.declared.registers.interrupt_enable.TheConstants.IER
-use Rattle.uart_spec.specs.declared.registers.interrupt_type.InterruptType.TheVariants.{ReceivedDataReady}
 use Rattle.uart_spec.specs.declared.registers.offsets.TheConstants as offsets
-use Rattle.uart_chip.specs.Chip.{ChipState, interrupt, is_thr_empty, with_thr_pending, after_read}
-use Rattle.uart_chip.specs.Machine.{MachineState, MachineStep, at_access}
-use Rattle.uart_chip.specs.Receiver.{ReceiverState, characters_of, is_data_pending, report}
-use Rattle.uart_chip.proofs.Sizes.{some_characters}
-use Rattle.uart_run.proofs.Latches.{Kept, kept_access, kept_step}
-use Rattle.uart_latency.specs.Ticks.{late_if, late_at, passing}
-use Rattle.uart_latency.proofs.Moves.{calm_read}
+use Rattle.uart_latency.proofs.{Moves.calm_read, Quick.most_if, Quick.late_most, Told.IsTold, Told.told_report, Told.then_told}
 use Rattle.uart_latency.proofs.Behind.{After, IsEarlyAt, after_before, after_step, passes_before, told_before, pending_is}
-use Rattle.uart_latency.proofs.Quick.{most_if, late_most}
-use Rattle.uart_latency.proofs.Told.{IsTold, told_report, then_told}
 
 -- a read of ISR leaves what waits
 isr_keeps : (c : ChipState) → length (after_read offsets.ISR c).receiver.queue ≡ length c.receiver.queue

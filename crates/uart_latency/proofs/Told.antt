@@ -1,20 +1,13 @@
 -- Once a look at LSR has told the line errors, none is shown until the next character is read, as long as there is room for those that
 -- come. So the receiver's interrupt is the first then.
-use Rattle.std.proofs.Common.{◌≡◌, ℕ, ◌≤◌, ◌<◌, ◌==◌, ◌&&◌, ◌⊎◌, inl, inr, Bool, true, false, nat_lt, List, [], ◌∷◌, length, length-append}
-use Rattle.std.proofs.Common.{refl, sym, ◌∙◌, ap, subst, arith, if◌then◌else◌, Option, Some, bit_or}
-use Rattle.std.specs.List.{list_any}
-use Rattle.std.proofs.lemmas.Bool.{false≢true}
-use Rattle.std.proofs.lemmas.Bool.Decides.{nat_tests}
-use Rattle.uart_spec.specs.Bits.{has_any, flag}
-use Rattle.uart_spec.specs.FifoSize.{characters}
+use Rattle.uart_latency.proofs.Names.{◌≡◌, ℕ, ◌≤◌, ◌<◌, ◌==◌, ◌&&◌, ◌⊎◌, inl, inr, Bool, true, false, nat_lt, List, [], ◌∷◌, length}
+use Rattle.uart_latency.proofs.Names.{length-append, refl, sym, ◌∙◌, ap, subst, arith, if◌then◌else◌, Option, Some, bit_or, list_any}
+use Rattle.uart_latency.proofs.Names.{false≢true, nat_tests, has_any, flag, characters, InterruptType, ReceiverLineStatus}
+use Rattle.uart_latency.proofs.Names.{ReceivedDataReady, Character, ChipState, is_loopback, is_transmitter_empty, line_status, interrupt}
+use Rattle.uart_latency.proofs.Names.{tick, arrive, cut_of, ReceiverState, report, front_errors, unreported, has_errors, is_data_pending}
 use Rattle.uart_spec.specs.declared.registers.interrupt_enable.TheConstants.IER
-use Rattle.uart_spec.specs.declared.registers.interrupt_type.InterruptType.{InterruptType}
-use Rattle.uart_spec.specs.declared.registers.interrupt_type.InterruptType.TheVariants.{ReceiverLineStatus, ReceivedDataReady}
 use Rattle.uart_spec.specs.declared.registers.line_status.TheConstants.LSR
-use Rattle.uart_chip.specs.declared.receiver.Character.{Character}
-use Rattle.uart_chip.specs.Chip.{ChipState, is_loopback, is_transmitter_empty, line_status, interrupt, tick, arrive, cut_of}
 use Rattle.uart_chip.specs.Receiver as receiver
-use Rattle.uart_chip.specs.Receiver.{ReceiverState, report, front_errors, unreported, has_errors, is_data_pending}
 use Rattle.uart_latency.proofs.Moves.{tick_is, tick_keeps}
 
 -- a character waits, whose errors were told, and no overrun is noted

@@ -1,18 +1,10 @@
 -- A visit of the handler that reads until nothing waits is never later than at its first byte.
-use Rattle.std.proofs.Common.{◌≡◌, ℕ, ◌+◌, ◌-◌, ◌*◌, ◌≤◌, Bool, true, false, nat_le, nat_lt, List, [], ◌∷◌, ◌++◌, length, sym, ◌∙◌}
-use Rattle.std.proofs.Common.{ap, subst, arith, if◌then◌else◌}
-use Rattle.std.proofs.lemmas.Grind.{common_steps}
-use Rattle.uart_spec.specs.Access.{Path}
-use Rattle.uart_spec.specs.Bits.{has_any}
-use Rattle.uart_spec.specs.declared.access.Access.{Access}
-use Rattle.uart_spec.specs.declared.access.Access.TheVariants.{Read}
+use Rattle.uart_latency.proofs.Names.{◌≡◌, ℕ, ◌+◌, ◌-◌, ◌*◌, ◌≤◌, Bool, true, false, nat_le, nat_lt, List, [], ◌∷◌, ◌++◌, length, sym, ◌∙◌}
+use Rattle.uart_latency.proofs.Names.{ap, subst, arith, if◌then◌else◌, common_steps, Path, has_any, Access, Read, MachineState, MachineStep}
+use Rattle.uart_latency.proofs.Names.{characters_of, is_data_pending, some_characters, look_data, late_if, late_at, given_back, IsPrompt}
+use Rattle.uart_latency.proofs.Names.{AreQuick, AreOthersQuick, reads, visit, IsInTime}
 use Rattle.uart_spec.specs.declared.registers.line_status.TheConstants.LSR
 use Rattle.uart_spec.specs.declared.registers.offsets.TheConstants as offsets
-use Rattle.uart_chip.specs.Machine.{MachineState, MachineStep}
-use Rattle.uart_chip.specs.Receiver.{characters_of, is_data_pending}
-use Rattle.uart_chip.proofs.Sizes.{some_characters}
-use Rattle.uart_chip.proofs.conservation.BlockLaws.{look_data}
-use Rattle.uart_latency.specs.Ticks.{late_if, late_at, given_back, IsPrompt, AreQuick, AreOthersQuick, reads, visit, IsInTime}
 use Rattle.uart_latency.proofs.Quick.{most_if, late_most, prompt_after}
 
 -- from here these accesses find it in time

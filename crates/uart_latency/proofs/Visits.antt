@@ -1,21 +1,9 @@
 -- The handler's visit ends with fewer characters waiting than the trigger level.
-use Rattle.std.proofs.Common.{◌≡◌, ◌&&◌, ℕ, Bool, true, false, not, Option, Some, if◌then◌else◌, refl, sym, ◌∙◌, ap}
-use Rattle.std.specs.Prelude.{is_some}
-use Rattle.uart_spec.specs.Bits.{has_any}
+use Rattle.uart_latency.proofs.Names.{◌≡◌, ◌&&◌, ℕ, Bool, true, false, not, Option, Some, if◌then◌else◌, refl, sym, ◌∙◌, ap, is_some}
+use Rattle.uart_latency.proofs.Names.{has_any, InterruptType, ReceiverLineStatus, ReceivedDataReady, ChipState, interrupt, MachineStep}
+use Rattle.uart_latency.proofs.Names.{is_data_pending, Handles, RingDid, ring_fields, Idle, Handled, idle_is_down, RingState, ring_machine}
+use Rattle.uart_latency.proofs.Names.{under, Ready, is_below_level}
 use Rattle.uart_spec.specs.declared.registers.interrupt_enable.TheConstants.IER
-use Rattle.uart_spec.specs.declared.registers.interrupt_type.InterruptType.{InterruptType}
-use Rattle.uart_spec.specs.declared.registers.interrupt_type.InterruptType.TheVariants.{ReceiverLineStatus, ReceivedDataReady}
-use Rattle.uart_chip.specs.Chip.{ChipState, interrupt}
-use Rattle.uart_chip.specs.Machine.{MachineStep}
-use Rattle.uart_chip.specs.Receiver.{is_data_pending}
-use Rattle.uart_ring.specs.Handle.{Handles}
-use Rattle.uart_ring.specs.Ring.{RingDid, ring_fields}
-use Rattle.uart_ring.specs.declared.ring.service.HandleEnd.TheVariants.{Idle}
-use Rattle.uart_ring.specs.declared.ring.service.Handled.{Handled}
-use Rattle.uart_ring_runs.proofs.RingEdges.{idle_is_down}
-use Rattle.uart_ring_runs.specs.RingRun.{RingState, ring_machine, under}
-use Rattle.uart_run.specs.Ready.{Ready}
-use Rattle.uart_latency.specs.Arrivals.{is_below_level}
 use Rattle.uart_latency.proofs.Listening.{handles}
 
 none_due : (c : ChipState) → is_some (interrupt c) ≡ false → has_any c.latches.ier IER.DATA_READY.0 ≡ true →

@@ -1,45 +1,21 @@
 -- What is told by XOFF and XON is obeyed: over bytes, then over the fields of rings, and then over calls of a link.
-use Rattle.std.proofs.Common.{◌≡◌, ◌⊎◌, inl, inr, ◌≤◌, ◌-◌, ◌==◌, ℕ, zero, suc, Bool, true, false, not, if◌then◌else◌, List, [], ◌∷◌}
-use Rattle.std.proofs.Common.{◌++◌, length, append_assoc, append-nil, take, drop, map, Option, Some, None, refl, sym}
-use Rattle.std.proofs.Common.{◌∙◌, ap, subst, arith}
-use Rattle.std.specs.List.{AllByRecursion}
-use Rattle.std.specs.Prelude.{option_to_list}
-use Rattle.std.proofs.lemmas.List.{append_cancel_left, drop-append-le, drop_all, map-id}
-use Rattle.uart_spec.specs.declared.access.Access.{Access}
-use Rattle.uart_chip.specs.Conserved.{waiting, out}
-use Rattle.uart_chip.specs.Sound.{IsSound}
-use Rattle.uart_chip.specs.Transmitter.{held}
-use Rattle.uart_chip.proofs.conservation.Went.{Modes}
-use Rattle.uart_ring.specs.Queue.{Queue, latest}
-use Rattle.uart_ring.specs.Receive.{flow_character, held_as_told, is_flow_character, last_told, ObeysXoff, TellsIfAny, xon}
-use Rattle.uart_ring.specs.Ring.{RingFields, ring_fields, with_queued, with_told_xoff, with_urgent, without_taken}
-use Rattle.uart_ring.specs.declared.ring.receive.ReceiveMarks.{ReceiveMarks}
+use Rattle.uart_link.proofs.Names.{◌≡◌, ◌⊎◌, inl, inr, ◌≤◌, ◌-◌, ◌==◌, ℕ, zero, suc, Bool, true, false, not, if◌then◌else◌, List, [], ◌∷◌}
+use Rattle.uart_link.proofs.Names.{◌++◌, length, append_assoc, append-nil, take, drop, map, Option, Some, None, refl, sym, ◌∙◌, ap, subst}
+use Rattle.uart_link.proofs.Names.{arith, AllByRecursion, option_to_list, append_cancel_left, drop-append-le, drop_all, map-id, Access}
+use Rattle.uart_link.proofs.Names.{waiting, out, IsSound, held, Modes, Queue, latest, flow_character, held_as_told, is_flow_character}
+use Rattle.uart_link.proofs.Names.{last_told, ObeysXoff, TellsIfAny, xon, RingFields, ring_fields, with_queued, with_told_xoff, with_urgent}
+use Rattle.uart_link.proofs.Names.{without_taken, ReceiveMarks, in_order, RingAnswer, RingCall, gone_in, KeepsOrder, queued_by, to_send}
+use Rattle.uart_link.proofs.Names.{to_send_with, to_take, RingState, ring_machine, Moment, Side, Left, Right, Link, Agree, Agreed, IsInTurn}
+use Rattle.uart_link.proofs.Names.{IsText, KeepsAgreed, not_looked_at, ObeysInTurn, TellsInTurn, will_hold, on_cable, Carries, IsJoined}
+use Rattle.uart_link.proofs.Names.{OfEnd, of_end, on_the_way, receiver_at, to_be_taken, CarriesAll, DropsNothing, at_end, CabledCallStep}
+use Rattle.uart_link.proofs.Names.{EndStep, LinkChain, other, Step, has_told, is_holding}
 use Rattle.uart_ring.proofs.Rts.{obeys_xoff_holds}
-use Rattle.uart_ring_runs.proofs.RingMeanings.{in_order}
-use Rattle.uart_ring_runs.specs.declared.call.RingAnswer.{RingAnswer}
 use Rattle.uart_ring_runs.specs.declared.call.RingAnswer.TheVariants as answers
-use Rattle.uart_ring_runs.specs.declared.call.RingCall.{RingCall}
 use Rattle.uart_ring_runs.specs.declared.call.RingCall.TheVariants as call
-use Rattle.uart_ring_runs.specs.RingBytes.{gone_in, KeepsOrder, queued_by, to_send, to_send_with, to_take}
-use Rattle.uart_ring_runs.specs.RingRun.{RingState, ring_machine}
-use Rattle.uart_link.specs.declared.call.Moment.{Moment}
-use Rattle.uart_link.specs.declared.call.Side.{Side}
-use Rattle.uart_link.specs.declared.call.Side.TheVariants.{Left, Right}
-use Rattle.uart_link.specs.declared.link.Link.{Link}
-use Rattle.uart_link.specs.Agreed.{Agree, Agreed, IsInTurn, IsText, KeepsAgreed, not_looked_at, ObeysInTurn, TellsInTurn, will_hold}
-use Rattle.uart_link.specs.Cable.{on_cable}
-use Rattle.uart_link.specs.Carried.{Carries, IsJoined, OfEnd, of_end, on_the_way, receiver_at, to_be_taken}
-use Rattle.uart_link.specs.Flow.{CarriesAll, DropsNothing}
-use Rattle.uart_link.specs.Link.{at_end, CabledCallStep, EndStep, LinkChain, other, Step}
-use Rattle.uart_link.specs.Xoff.{has_told, is_holding}
-use Rattle.uart_link.proofs.EndPasses.{InEnd}
+use Rattle.uart_link.proofs.{EndPasses.InEnd, Holds.Keeps, Holds.call_keeps, LinkSteps.bytes_gone_first, LinkSteps.joined_after}
+use Rattle.uart_link.proofs.{LinkSteps.link_chain, Rounds.none_before, Rounds.stands_before, Stretches.Going, Wholes.carries_all}
+use Rattle.uart_link.proofs.{XoffFlows.Sent, XoffFlows.sent_end}
 use Rattle.uart_link.proofs.Holds as holds
-use Rattle.uart_link.proofs.Holds.{Keeps, call_keeps}
-use Rattle.uart_link.proofs.LinkSteps.{bytes_gone_first, joined_after, link_chain}
-use Rattle.uart_link.proofs.Rounds.{none_before, stands_before}
-use Rattle.uart_link.proofs.Stretches.{Going}
-use Rattle.uart_link.proofs.Wholes.{carries_all}
-use Rattle.uart_link.proofs.XoffFlows.{Sent, sent_end}
 
 -- ---- bytes
 

@@ -1,19 +1,11 @@
 -- What is put ahead of a chip are the bytes that are on the cable.
-use Rattle.std.proofs.Common.{◌≡◌, ℕ, ◌+◌, ◌-◌, ◌≤◌, min, Bool, true, false, nat_le, List, ◌++◌, length, take, drop, refl, sym, ◌∙◌, ap}
-use Rattle.std.proofs.Common.{arith, if◌then◌else◌}
-use Rattle.std.specs.Prelude.{slice_range}
-use Rattle.std.proofs.lemmas.Grind.{common_steps}
-use Rattle.std.proofs.lemmas.List.{drop_all, take_min, length-drop, length-take}
-use Rattle.uart_events.specs.declared.event.Event.{Event}
-use Rattle.uart_spec.specs.Bits.{IsWithin, has_any}
+use Rattle.uart_link.proofs.Names.{◌≡◌, ℕ, ◌+◌, ◌-◌, ◌≤◌, min, Bool, true, false, nat_le, List, ◌++◌, length, take, drop, refl, sym, ◌∙◌}
+use Rattle.uart_link.proofs.Names.{ap, arith, if◌then◌else◌, slice_range, common_steps, drop_all, take_min, length-drop, length-take, Event}
+use Rattle.uart_link.proofs.Names.{IsWithin, has_any, ChipState, is_loopback, rts_output, MachineState, arrivals, Moment, events_of}
+use Rattle.uart_link.proofs.Names.{unknown, to_come, with_ahead, arranged, on_cable, lines_joined, lines_from, IsKnown}
 use Rattle.uart_spec.specs.declared.registers.modem_control.TheConstants.MCR
 use Rattle.uart_spec.specs.declared.registers.modem_status.TheConstants.MSR
-use Rattle.uart_chip.specs.Chip.{ChipState, is_loopback, rts_output}
-use Rattle.uart_chip.specs.Machine.{MachineState, arrivals}
 use Rattle.uart_chip.proofs.soundness.Within.{within_or, within_flag}
-use Rattle.uart_link.specs.declared.call.Moment.{Moment}
-use Rattle.uart_link.specs.Cable.{events_of, unknown, to_come, with_ahead, arranged, on_cable, lines_joined, lines_from}
-use Rattle.uart_link.specs.Known.{IsKnown}
 use Rattle.uart_link.proofs.Schedules.{few_arrivals, legal_events, unmarked_events, known_ahead, known_arranged, HasSettled}
 use Rattle.uart_link.proofs.Schedules.{arrivals-unknown}
 

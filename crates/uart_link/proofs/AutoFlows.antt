@@ -1,53 +1,27 @@
 -- Flow control by the chips loses nothing in its direction.
-use Rattle.std.proofs.Common.{◌≡◌, ◌≤◌, ◌<◌, ◌+◌, ◌-◌, ◌&&◌, ◌⊎◌, inl, inr, ℕ, zero, suc, Bool, true, false, not, nat_lt, nat_le}
-use Rattle.std.proofs.Common.{List, [], ◌∷◌, ◌++◌, length, length-append, Option, Some, None, refl, sym, ◌∙◌, ap, subst, arith}
-use Rattle.std.specs.List.{AllByRecursion}
-use Rattle.std.proofs.lemmas.Grind.{common_steps}
-use Rattle.uart_events.specs.declared.event.Event.{Event}
-use Rattle.uart_events.specs.declared.event.Event.TheVariants.{Ticks, Arrive, Lines, Access as Gate, Mark}
-use Rattle.uart_spec.specs.Access.{Path}
-use Rattle.uart_spec.specs.Bits.{has_any}
-use Rattle.uart_spec.specs.FifoSize.{characters}
-use Rattle.uart_spec.specs.declared.access.Access.{Access}
-use Rattle.uart_spec.specs.declared.access.Access.TheVariants.{Read, Write}
+use Rattle.uart_link.proofs.Names.{◌≡◌, ◌≤◌, ◌<◌, ◌+◌, ◌-◌, ◌&&◌, ◌⊎◌, inl, inr, ℕ, zero, suc, Bool, true, false, not, nat_lt, nat_le, List}
+use Rattle.uart_link.proofs.Names.{[], ◌∷◌, ◌++◌, length, length-append, Option, Some, None, refl, sym, ◌∙◌, ap, subst, arith}
+use Rattle.uart_link.proofs.Names.{AllByRecursion, common_steps, Event, Ticks, Arrive, Lines, Gate, Mark, Path, has_any, characters, Access}
+use Rattle.uart_link.proofs.Names.{Read, Write, FifoSize, Character, Shifting, ChipState, is_loopback, is_auto_flow, is_held_off}
+use Rattle.uart_link.proofs.Names.{rts_output, cut_of, tick, ticks, arrive, change_lines, MachineState, MachineStep, arrivals, perform}
+use Rattle.uart_link.proofs.Names.{before_access, before_mark, at_access, ReceiverState, characters_of, is_data_pending, replace, enter}
+use Rattle.uart_link.proofs.Names.{come_back, take_front, TransmitterState, looped_byte, shift, shift_bytes, load, room, Drop, drop_split}
+use Rattle.uart_link.proofs.Names.{drop_receivers, Modes, loopback-in, LastsInEvents, chip_lasts-before, chip_lasts-before_mark}
+use Rattle.uart_link.proofs.Names.{ring_fields, RingCall, RingAnswer, RingState, ring_machine, Moment, Side, Left, Right, Link, lines_from}
+use Rattle.uart_link.proofs.Names.{settled, unknown, to_come, arranged, receiver_at, IsJoined, OfEnd, SeesLines, hold_of, DropsNothing}
+use Rattle.uart_link.proofs.Names.{at_end, other, EndStep, Step, LinkChain}
 use Rattle.uart_spec.specs.declared.registers.fifo_trigger_level.FifoTriggerLevel.{FifoTriggerLevel}
 use Rattle.uart_spec.specs.declared.registers.modem_control.TheConstants.MCR
 use Rattle.uart_spec.specs.declared.registers.modem_status.TheConstants.MSR
-use Rattle.uart_spec.specs.declared.setup.FifoSize.{FifoSize}
-use Rattle.uart_chip.specs.declared.receiver.Character.{Character}
-use Rattle.uart_chip.specs.declared.transmitter.Shifting.{Shifting}
-use Rattle.uart_chip.specs.Chip.{ChipState, is_loopback, is_auto_flow, is_held_off, rts_output, cut_of, tick, ticks, arrive, change_lines}
-use Rattle.uart_chip.specs.Machine.{MachineState, MachineStep, arrivals, perform, before_access, before_mark, at_access}
-use Rattle.uart_chip.specs.Receiver.{ReceiverState, characters_of, is_data_pending, replace, enter, come_back, take_front}
 use Rattle.uart_chip.specs.Receiver as receiver
 use Rattle.uart_chip.specs.Transmitter as transmitter
-use Rattle.uart_chip.specs.Transmitter.{TransmitterState, looped_byte, shift, shift_bytes, load, room}
 use Rattle.uart_chip.proofs.AccessMoves.{both_if, ReadMove, takes, read_move, WriteMove, sends, switches, resizes, clears, triggers, steers}
 use Rattle.uart_chip.proofs.AccessMoves.{write_lasts}
-use Rattle.uart_chip.proofs.conservation.Receives.{Drop, drop_split}
-use Rattle.uart_chip.proofs.conservation.SessionLaws.{drop_receivers}
-use Rattle.uart_chip.proofs.conservation.Went.{Modes, loopback-in}
-use Rattle.uart_chip.proofs.lasting.Lasting.{LastsInEvents, chip_lasts-before, chip_lasts-before_mark}
-use Rattle.uart_ring.specs.Ring.{ring_fields}
-use Rattle.uart_ring_runs.specs.declared.call.RingCall.{RingCall}
-use Rattle.uart_ring_runs.specs.declared.call.RingAnswer.{RingAnswer}
-use Rattle.uart_ring_runs.specs.RingRun.{RingState, ring_machine}
-use Rattle.uart_link.specs.declared.call.Moment.{Moment}
-use Rattle.uart_link.specs.declared.call.Side.{Side}
-use Rattle.uart_link.specs.declared.call.Side.TheVariants.{Left, Right}
-use Rattle.uart_link.specs.declared.link.Link.{Link}
 use Rattle.uart_link.specs.AutoFlow.{begun, under_way, level_at, fifo_at, IsFlowStep, IsPacedByChip}
-use Rattle.uart_link.specs.Cable.{lines_from, settled, unknown, to_come, arranged}
-use Rattle.uart_link.specs.Carried.{receiver_at, IsJoined, OfEnd}
-use Rattle.uart_link.specs.Flow.{SeesLines, hold_of, DropsNothing}
-use Rattle.uart_link.specs.Link.{at_end, other, EndStep, Step, LinkChain}
-use Rattle.uart_link.proofs.Arranges.{arranged_events}
+use Rattle.uart_link.proofs.{Arranges.arranged_events, EndPasses.InEnd, Flows.no_drop_still, Lefts.settled_grows, LinkSteps.link_chain}
+use Rattle.uart_link.proofs.{LinkSteps.joined_after}
 use Rattle.uart_link.proofs.Calm.{LeavesMcr, AllLeaveMcr, blocks_leave, LeavesCts, AllLeaveCts, HasCts, cts_after}
 use Rattle.uart_link.proofs.EndFlows.{waits, IsHeldBack, EndKept, EndFlows, end_moves, call_did, CallDid, cts_arranged, cts_off}
-use Rattle.uart_link.proofs.EndPasses.{InEnd}
-use Rattle.uart_link.proofs.Flows.{no_drop_still}
-use Rattle.uart_link.proofs.Lefts.{settled_grows}
-use Rattle.uart_link.proofs.LinkSteps.{link_chain, joined_after}
 
 -- ---- what calls leave that neither write FCR nor MCR
 

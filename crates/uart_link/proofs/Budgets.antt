@@ -1,25 +1,9 @@
 -- What is still due at an end grows less with what the schedule has ahead of its chip: in events, accesses and calls.
-use Rattle.std.proofs.Common.{◌≡◌, ◌⊎◌, inl, inr, ℕ, ◌+◌, List, [], ◌∷◌, sym, subst, arith}
-use Rattle.uart_events.specs.declared.event.Event.{Event}
-use Rattle.uart_events.specs.declared.event.Event.TheVariants.{Access as Gate, Mark}
-use Rattle.uart_spec.specs.Access.{Path}
-use Rattle.uart_spec.specs.declared.access.Access.{Access}
-use Rattle.uart_spec.specs.declared.access.Access.TheVariants.{Read, Write}
-use Rattle.uart_chip.proofs.conservation.Went.{Modes}
-use Rattle.uart_chip.proofs.soundness.Sounds.{sound_perform, sound_access, sound_step}
-use Rattle.uart_chip.specs.Chip.{ChipState, tick, after_read, after_write}
-use Rattle.uart_chip.specs.Machine.{MachineState, MachineStep, perform, before_access, after_access, before_mark, at_access}
-use Rattle.uart_chip.specs.Sound.{IsSound, IsSoundChip}
-use Rattle.uart_ring_runs.specs.RingRun.{RingState, ring_machine}
-use Rattle.uart_ring_runs.specs.declared.call.RingAnswer.{RingAnswer}
-use Rattle.uart_ring_runs.specs.declared.call.RingCall.{RingCall}
-use Rattle.uart_link.specs.declared.call.Moment.{Moment}
-use Rattle.uart_link.specs.Cable.{settled, arranged}
-use Rattle.uart_link.specs.Link.{EndStep}
-use Rattle.uart_link.proofs.Calm.{IsMild, AllMild}
-use Rattle.uart_link.proofs.EndActs.{end_begins}
-use Rattle.uart_link.proofs.EndFlows.{calm_call}
-use Rattle.uart_link.proofs.EndPasses.{InEnd}
+use Rattle.uart_link.proofs.Names.{◌≡◌, ◌⊎◌, inl, inr, ℕ, ◌+◌, List, [], ◌∷◌, sym, subst, arith, Event, Gate, Mark, Path, Access, Read}
+use Rattle.uart_link.proofs.Names.{Write, Modes, sound_perform, sound_access, sound_step, ChipState, tick, after_read, after_write}
+use Rattle.uart_link.proofs.Names.{MachineState, MachineStep, perform, before_access, after_access, before_mark, at_access, IsSound}
+use Rattle.uart_link.proofs.Names.{IsSoundChip, RingState, ring_machine, RingAnswer, RingCall, Moment, settled, arranged, EndStep}
+use Rattle.uart_link.proofs.{Calm.IsMild, Calm.AllMild, EndActs.end_begins, EndFlows.calm_call, EndPasses.InEnd}
 
 -- the weights of the events before the next Mark
 abbrev pub ahead_of : (weight : Event → ℕ) → List Event → ℕ

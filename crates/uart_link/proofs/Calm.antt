@@ -1,43 +1,22 @@
 -- What a chip keeps while nobody resets its FIFO or writes MCR: its outputs, and each character for which there is room.
-use Rattle.std.proofs.Common.{◌≡◌, ℕ, zero, suc, ◌+◌, ◌≤◌, ◌<◌, ◌==◌, ◌||◌, Bool, true, false, nat_lt, List, [], ◌∷◌, length, map, refl}
-use Rattle.std.proofs.Common.{sym, ◌∙◌, ap, subst, arith, if◌then◌else◌, bit_or, ◌⊎◌, inl, inr, length-append}
-use Rattle.std.specs.List.{AllByRecursion}
-use Rattle.std.proofs.lemmas.Grind.{common_steps}
-use Rattle.std.proofs.lemmas.Bool.Decides.{nat_tests}
-use Rattle.std.proofs.Math.Bool.{or-false}
+use Rattle.uart_link.proofs.Names.{◌≡◌, ℕ, zero, suc, ◌+◌, ◌≤◌, ◌<◌, ◌==◌, ◌||◌, Bool, true, false, nat_lt, List, [], ◌∷◌, length, map}
+use Rattle.uart_link.proofs.Names.{refl, sym, ◌∙◌, ap, subst, arith, if◌then◌else◌, bit_or, ◌⊎◌, inl, inr, length-append, AllByRecursion}
+use Rattle.uart_link.proofs.Names.{common_steps, nat_tests, or-false, Event, Ticks, Arrive, Lines, Gate, Mark, Path, has, has_any, IsWithin}
+use Rattle.uart_link.proofs.Names.{Access, Read, Write, Character, Arrived, kept_mcr, kept_bit, ReceiverState, take_front, report}
+use Rattle.uart_link.proofs.Names.{grow_timeout, looped_byte, ChipState, is_loopback, is_held_off, is_dlab_set, interrupt, is_thr_empty}
+use Rattle.uart_link.proofs.Names.{tick, ticks, arrive, change_lines, answer, after_read, after_write, cut_of, control_modem, with_latches}
+use Rattle.uart_link.proofs.Names.{MachineState, MachineStep, before_access, after_access, at_access, before_mark, IsSound, characters}
+use Rattle.uart_link.proofs.Names.{has_one, has_or, has_not, each-append, origin_stands, Drop, drop_split, no_drop-set, LastsInEvents}
+use Rattle.uart_link.proofs.Names.{chip_lasts-before, chip_lasts-before_mark, latches-read, sound_access, sound_step}
 use Rattle.uart_events.specs.declared.event.ArrivalMark.TheVariants as marks
-use Rattle.uart_events.specs.declared.event.Event.{Event}
-use Rattle.uart_events.specs.declared.event.Event.TheVariants.{Ticks, Arrive, Lines, Access as Gate, Mark}
-use Rattle.uart_spec.specs.Access.{Path}
-use Rattle.uart_spec.specs.Bits.{has, has_any, IsWithin}
-use Rattle.uart_spec.specs.declared.access.Access.{Access}
-use Rattle.uart_spec.specs.declared.access.Access.TheVariants.{Read, Write}
 use Rattle.uart_spec.specs.declared.registers.modem_control.TheConstants.MCR
 use Rattle.uart_spec.specs.declared.registers.modem_status.TheConstants.MSR
 use Rattle.uart_spec.specs.declared.registers.offsets.TheConstants as offsets
-use Rattle.uart_chip.specs.declared.receiver.Character.{Character}
-use Rattle.uart_chip.specs.declared.receiver.Origin.TheVariants.{Arrived}
-use Rattle.uart_chip.specs.Masks.{kept_mcr}
-use Rattle.uart_chip.proofs.McrBits.{kept_bit}
 use Rattle.uart_chip.specs.Modem.{ModemState}
 use Rattle.uart_chip.specs.Receiver as receiver
-use Rattle.uart_chip.specs.Receiver.{ReceiverState, take_front, report, grow_timeout}
 use Rattle.uart_chip.specs.Transmitter as transmitter
-use Rattle.uart_chip.specs.Transmitter.{looped_byte}
-use Rattle.uart_chip.specs.Chip.{ChipState, is_loopback, is_held_off, is_dlab_set, interrupt, is_thr_empty, tick, ticks, arrive}
-use Rattle.uart_chip.specs.Chip.{change_lines, answer}
-use Rattle.uart_chip.specs.Chip.{after_read, after_write, cut_of, control_modem, with_latches}
-use Rattle.uart_chip.specs.Machine.{MachineState, MachineStep, before_access, after_access, at_access, before_mark}
-use Rattle.uart_chip.specs.Sound.{IsSound}
-use Rattle.uart_spec.specs.FifoSize.{characters}
-use Rattle.uart_chip.proofs.Bits.{has_one, has_or, has_not}
-use Rattle.uart_chip.proofs.Lists.{each-append}
 use Rattle.uart_chip.proofs.conservation.Blocks.{is_quiet, Block, Look, Hit, Burst, Other, Divisor, accesses_of, AllQuiet, IsFit}
 use Rattle.uart_chip.proofs.conservation.Blocks.{AllFit, flat}
-use Rattle.uart_chip.specs.Conserved.{origin_stands}
-use Rattle.uart_chip.proofs.conservation.Receives.{Drop, drop_split, no_drop-set}
-use Rattle.uart_chip.proofs.lasting.Lasting.{LastsInEvents, chip_lasts-before, chip_lasts-before_mark}
-use Rattle.uart_chip.proofs.soundness.Sounds.{latches-read, sound_access, sound_step}
 use Rattle.uart_link.proofs.Held.{ShowsCts, AllShowCts}
 
 -- ---- accesses that reset nothing

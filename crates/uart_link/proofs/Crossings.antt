@@ -1,16 +1,8 @@
 -- Bytes that cross a cable: those that arrive at one end are the next ones that have left the other.
-use Rattle.std.proofs.Common.{◌≡◌, ℕ, ◌+◌, ◌≤◌, List, [], ◌∷◌, ◌++◌, length, drop, refl, sym, ◌∙◌, ap, arith, append_assoc, length-append}
-use Rattle.std.proofs.lemmas.List.{drop-drop, drop-append-le, length-drop}
-use Rattle.std.proofs.Math.Seq.{drop-append_seam}
-use Rattle.uart_events.specs.declared.event.Event.{Event}
-use Rattle.uart_events.specs.declared.event.Event.TheVariants.{Arrive}
-use Rattle.uart_chip.specs.declared.receiver.Origin.TheVariants.{Arrived}
-use Rattle.uart_chip.specs.Conserved.{arriving}
-use Rattle.uart_chip.proofs.conservation.Went.{arriving_cut}
-use Rattle.uart_link.specs.declared.call.Moment.{Moment}
+use Rattle.uart_link.proofs.Names.{◌≡◌, ℕ, ◌+◌, ◌≤◌, List, [], ◌∷◌, ◌++◌, length, drop, refl, sym, ◌∙◌, ap, arith, append_assoc}
+use Rattle.uart_link.proofs.Names.{length-append, drop-drop, drop-append-le, length-drop, drop-append_seam, Event, Arrive, Arrived}
+use Rattle.uart_link.proofs.Names.{arriving, arriving_cut, Moment, brought, numbered, AllClean, events_of}
 use Rattle.uart_link.specs.declared.call.Moment.TheVariants as moment
-use Rattle.uart_link.specs.Brought.{brought, numbered, AllClean}
-use Rattle.uart_link.specs.Cable.{events_of}
 
 -- ---- the bytes of events
 

@@ -1,32 +1,13 @@
 -- What a call at one end does there, and to what crosses the cable.
-use Rattle.std.proofs.Common.{◌≡◌, ◌≢◌, ℕ, ◌+◌, ◌-◌, ◌≤◌, List, [], ◌∷◌, ◌++◌, length, drop, take}
-use Rattle.std.proofs.Common.{replicate, append_assoc, append-nil, zero-le, refl, sym, ◌∙◌, ap, subst, arith}
-use Rattle.std.proofs.lemmas.List.{append_cancel_right, length-take, take-append-drop}
-use Rattle.uart_events.specs.declared.event.Event.{Event}
-use Rattle.uart_events.specs.declared.event.Event.TheVariants.{Arrive, Mark}
-use Rattle.uart_events.specs.Build.{IsLegal}
-use Rattle.uart_spec.specs.Access.{Path}
-use Rattle.uart_spec.specs.declared.access.Access.{Access}
-use Rattle.uart_chip.specs.declared.receiver.Character.{Character}
-use Rattle.uart_chip.specs.Chip.{ChipState}
-use Rattle.uart_chip.specs.Transmitter.{TransmitterState}
-use Rattle.uart_chip.specs.Machine.{MachineState, MachineStep, arrivals, at_mark, after_mark}
-use Rattle.uart_chip.specs.Sound.{AllLegal, IsSound, IsSoundChip}
-use Rattle.uart_chip.proofs.Lists.{each-append, each-front, each-back}
-use Rattle.uart_chip.proofs.conservation.Went.{Modes, Went}
-use Rattle.uart_run.specs.Wired.{IsWired, IsWiredChip}
-use Rattle.uart_run.proofs.Wired.{wired_path, wired_mark}
-use Rattle.uart_ring.specs.Ring.{RingFields}
-use Rattle.uart_ring_runs.specs.declared.call.RingCall.{RingCall}
+use Rattle.uart_link.proofs.Names.{◌≡◌, ◌≢◌, ℕ, ◌+◌, ◌-◌, ◌≤◌, List, [], ◌∷◌, ◌++◌, length, drop, take, replicate, append_assoc, append-nil}
+use Rattle.uart_link.proofs.Names.{zero-le, refl, sym, ◌∙◌, ap, subst, arith, append_cancel_right, length-take, take-append-drop, Event}
+use Rattle.uart_link.proofs.Names.{Arrive, Mark, IsLegal, Path, Access, Character, ChipState, TransmitterState, MachineState, MachineStep}
+use Rattle.uart_link.proofs.Names.{arrivals, at_mark, after_mark, AllLegal, IsSound, IsSoundChip, each-append, each-front, each-back, Modes}
+use Rattle.uart_link.proofs.Names.{Went, IsWired, IsWiredChip, wired_path, wired_mark, RingFields, RingCall, RingAnswer, RingState}
+use Rattle.uart_link.proofs.Names.{RingCallStep, under, ring_machine, IsOfRings, to_take, queued_by, gone_in, KeepsOrder, Moment, brought}
+use Rattle.uart_link.proofs.Names.{AllClean, IsClean, IsBrought, unknown, to_come, with_ahead, settled, on_cable, lines_from, IsUnmarked}
+use Rattle.uart_link.proofs.Names.{AllUnmarked, CabledCallStep, EndStep, LetsPass}
 use Rattle.uart_ring_runs.specs.declared.call.RingCall.TheVariants as call
-use Rattle.uart_ring_runs.specs.declared.call.RingAnswer.{RingAnswer}
-use Rattle.uart_ring_runs.specs.RingRun.{RingState, RingCallStep, under, ring_machine, IsOfRings}
-use Rattle.uart_ring_runs.specs.RingBytes.{to_take, queued_by, gone_in, KeepsOrder}
-use Rattle.uart_link.specs.declared.call.Moment.{Moment}
-use Rattle.uart_link.specs.Brought.{brought, AllClean, IsClean, IsBrought}
-use Rattle.uart_link.specs.Cable.{unknown, to_come, with_ahead, settled, on_cable, lines_from}
-use Rattle.uart_link.specs.Known.{IsUnmarked, AllUnmarked}
-use Rattle.uart_link.specs.Link.{CabledCallStep, EndStep, LetsPass}
 use Rattle.uart_link.proofs.Arranges.{lines_within, arranged_events}
 use Rattle.uart_link.proofs.Crossings.{brought-append, arriving_count, events_first, clean_events, Crosses, crosses-trans, crosses_next}
 use Rattle.uart_link.proofs.Lefts.{Left, left_path, left_settled, Grown, path_grows, settled_grows}

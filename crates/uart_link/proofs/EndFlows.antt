@@ -1,68 +1,28 @@
 -- What a call at one end does there, in numbers: how many characters came, were moved to the receive ring, and left the driver.
-use Rattle.std.proofs.Common.{◌≡◌, ◌⊎◌, inl, inr, ℕ, zero, suc, ◌+◌, ◌-◌, ◌<◌, ◌≤◌, nat_lt, nat_le, Bool, true, false, List, [], ◌∷◌}
-use Rattle.std.proofs.Common.{◌++◌, ◌&&◌, not, length, length-append, map}
-use Rattle.std.proofs.Common.{take, refl, replicate, sym, ◌∙◌, ap, subst, arith, filter, Option, Some, None, if◌then◌else◌}
-use Rattle.std.proofs.lemmas.Grind.{common_steps}
-use Rattle.std.proofs.lemmas.List.{length-map}
-use Rattle.std.proofs.lemmas.List.Sums.{length-filter, count_by-le-length}
-use Rattle.std.proofs.Math.Bool.{or-true}
-use Rattle.uart_events.specs.declared.event.Event.TheVariants.{Arrive}
-use Rattle.uart_spec.specs.Access.{Path}
-use Rattle.uart_spec.specs.Bits.{has, has_any}
-use Rattle.uart_spec.specs.declared.access.Access.{Access}
-use Rattle.uart_spec.specs.declared.access.Access.TheVariants.{Read, Write}
+use Rattle.uart_link.proofs.Names.{◌≡◌, ◌⊎◌, inl, inr, ℕ, zero, suc, ◌+◌, ◌-◌, ◌<◌, ◌≤◌, nat_lt, nat_le, Bool, true, false, List, [], ◌∷◌}
+use Rattle.uart_link.proofs.Names.{◌++◌, ◌&&◌, not, length, length-append, map, take, refl, replicate, sym, ◌∙◌, ap, subst, arith, filter}
+use Rattle.uart_link.proofs.Names.{Option, Some, None, if◌then◌else◌, common_steps, length-map, length-filter, count_by-le-length, or-true}
+use Rattle.uart_link.proofs.Names.{Arrive, Path, has, has_any, Access, Read, Write, switched, unlooped, settings_of, Character}
+use Rattle.uart_link.proofs.Names.{ReceiverState, is_data_pending, out, stands, ChipState, is_loopback, is_auto_flow, rts_output}
+use Rattle.uart_link.proofs.Names.{MachineState, MachineStep, at_access, before_access, at_mark, arrivals, Passed, passed-mark, each-append}
+use Rattle.uart_link.proofs.Names.{characters, kept_bit, has_one, has_or, has_and, has_not, IsOpen, Stands, path_as, Drop, Modes, IsIn}
+use Rattle.uart_link.proofs.Names.{loopback-in, arriving_cut, IsSound, IsWired, IsWiredChip, InSession, session_room, fits_by, wired_mark}
+use Rattle.uart_link.proofs.Names.{RingDid, RingFields, ring_fields, free, rts_at, write_if_other, MakesRtsIfAny, AdjustsRts, ReceiveMarks}
+use Rattle.uart_link.proofs.Names.{data_written, data_read, rts_moves, RingCall, RingAnswer, RingState, under, ring_machine, to_take}
+use Rattle.uart_link.proofs.Names.{gone_in, MakesBlocks, in_blocks, Meant, meaning_of, modes_at, begins_session, came_rts, Moment}
+use Rattle.uart_link.proofs.Names.{events_of, unknown, to_come, settled, arranged, on_cable, lines_joined, lines_from, receiver_at}
+use Rattle.uart_link.proofs.Names.{receive_room, hold_of, CabledCallStep, EndStep}
 use Rattle.uart_spec.specs.declared.registers.modem_control.TheConstants.MCR
 use Rattle.uart_spec.specs.declared.registers.modem_status.TheConstants.MSR
 use Rattle.uart_spec.specs.declared.registers.offsets.TheConstants as offsets
-use Rattle.uart_16550.specs.Frame.{switched, unlooped}
-use Rattle.uart_16550.specs.Driver.{settings_of}
-use Rattle.uart_chip.specs.declared.receiver.Character.{Character}
-use Rattle.uart_chip.specs.Receiver.{ReceiverState, is_data_pending}
-use Rattle.uart_chip.specs.Conserved.{out, stands}
-use Rattle.uart_chip.specs.Chip.{ChipState, is_loopback, is_auto_flow, rts_output}
 use Rattle.uart_chip.specs.Transmitter as transmitter
-use Rattle.uart_chip.specs.Machine.{MachineState, MachineStep, at_access, before_access, at_mark, arrivals}
-use Rattle.uart_chip.proofs.conservation.Passed.{Passed, passed-mark}
-use Rattle.uart_chip.proofs.Lists.{each-append}
-use Rattle.uart_spec.specs.FifoSize.{characters}
-use Rattle.uart_chip.proofs.McrBits.{kept_bit}
-use Rattle.uart_link.proofs.Lines.{rts_of_mcr}
-use Rattle.uart_chip.proofs.Bits.{has_one, has_or, has_and, has_not}
-use Rattle.uart_chip.proofs.conservation.BlockLaws.{IsOpen, Stands, path_as}
-use Rattle.uart_chip.proofs.conservation.Receives.{Drop}
-use Rattle.uart_chip.proofs.conservation.Went.{Modes, IsIn, loopback-in, arriving_cut}
-use Rattle.uart_chip.specs.Sound.{IsSound}
+use Rattle.uart_link.proofs.{Lines.rts_of_mcr, Arranges.arranged_events, EndActs.sound_arranged, EndPasses.InEnd, Held.HoldsBack}
+use Rattle.uart_link.proofs.{Held.HeldBack, Held.in_held}
 use Rattle.uart_run.proofs.CallBlocks.{InBlocks, most_in, passed_in_blocks}
-use Rattle.uart_run.specs.Wired.{IsWired, IsWiredChip}
-use Rattle.uart_run.proofs.CallLaws.{InSession, session_room}
-use Rattle.uart_run.proofs.SizeKept.{fits_by}
-use Rattle.uart_run.proofs.Wired.{wired_mark}
-use Rattle.uart_ring.specs.Ring.{RingDid, RingFields, ring_fields, free}
-use Rattle.uart_ring.specs.Receive.{rts_at, write_if_other, MakesRtsIfAny, AdjustsRts}
-use Rattle.uart_ring.specs.declared.ring.receive.ReceiveMarks.{ReceiveMarks}
-use Rattle.uart_ring.specs.Lossless.{data_written, data_read}
-use Rattle.uart_ring.proofs.Losses.{rts_moves}
-use Rattle.uart_ring_runs.specs.declared.call.RingCall.{RingCall}
 use Rattle.uart_ring_runs.specs.declared.call.RingCall.TheVariants as call
-use Rattle.uart_ring_runs.specs.declared.call.RingAnswer.{RingAnswer}
-use Rattle.uart_ring_runs.specs.RingRun.{RingState, under, ring_machine}
-use Rattle.uart_ring_runs.specs.RingBytes.{to_take, gone_in}
-use Rattle.uart_ring_runs.proofs.RingWalk as walk
-use Rattle.uart_ring_runs.proofs.RingBlocks.{MakesBlocks, in_blocks}
-use Rattle.uart_ring_runs.proofs.RingMeanings.{Meant, meaning_of}
-use Rattle.uart_ring_runs.proofs.RingRts.{modes_at, begins_session, came_rts}
-use Rattle.uart_link.specs.declared.call.Moment.{Moment}
 use Rattle.uart_link.specs.declared.call.Moment.TheVariants as moment
-use Rattle.uart_link.specs.Cable.{events_of, unknown, to_come, settled, arranged, on_cable, lines_joined, lines_from}
-use Rattle.uart_link.specs.Carried.{receiver_at}
-use Rattle.uart_link.specs.Flow.{receive_room, hold_of}
-use Rattle.uart_link.specs.Link.{CabledCallStep, EndStep}
-use Rattle.uart_link.proofs.Arranges.{arranged_events}
 use Rattle.uart_link.proofs.Calm.{AllLeaveMcr, AllMild, all_mild, blocks_leave, mcr_settled, mcr_path, LeavesCts, AllLeaveCts, HasCts}
 use Rattle.uart_link.proofs.Calm.{cts_path, cts_first, HasRoomTo, room_path, room_settled, room_first}
-use Rattle.uart_link.proofs.EndActs.{sound_arranged}
-use Rattle.uart_link.proofs.EndPasses.{InEnd}
-use Rattle.uart_link.proofs.Held.{HoldsBack, HeldBack, in_held}
 
 -- ---- what a ring call does, over any backend
 

@@ -1,34 +1,14 @@
 -- What a part of a link's run does at one end.
-use Rattle.std.proofs.Common.{◌≡◌, ◌≢◌, ℕ, List, [], ◌++◌, map, append_assoc, append-nil, refl, sym, ◌∙◌, ap, subst, bit_or}
+use Rattle.uart_link.proofs.Names.{◌≡◌, ◌≢◌, ℕ, List, [], ◌++◌, map, append_assoc, append-nil, refl, sym, ◌∙◌, ap, subst, bit_or}
+use Rattle.uart_link.proofs.Names.{map-append, Event, saved_lsr, Access, Settings, settings_of, Character, at_mark, IsSound, or_assoc}
+use Rattle.uart_link.proofs.Names.{Modes, Went, went-trans, passed-mark, IsOpen, IsWired, fits_by, RingFields, ring_fields, data_written}
+use Rattle.uart_link.proofs.Names.{data_read, untold_line, data_written-append, data_read-append, RingCall, RingAnswer, RingState, under}
+use Rattle.uart_link.proofs.Names.{ring_machine, IsOfRings, RingCallStep, to_send, to_take, queued_by, gone_in, KeepsOrder, wired_call}
+use Rattle.uart_link.proofs.Names.{modes_at, InRingSession, RingPasses, InLine, ring_passes_call, untold_line_of, in_order}
 use lib.Bits.{or_zero_r}
-use Rattle.std.proofs.lemmas.List.{map-append}
-use Rattle.uart_events.specs.declared.event.Event.{Event}
-use Rattle.uart_spec.specs.Access.{saved_lsr}
-use Rattle.uart_spec.specs.declared.access.Access.{Access}
-use Rattle.uart_16550.specs.Grammar.{Settings}
-use Rattle.uart_16550.specs.Driver.{settings_of}
-use Rattle.uart_chip.specs.declared.receiver.Character.{Character}
-use Rattle.uart_chip.specs.Machine.{at_mark}
-use Rattle.uart_chip.specs.Sound.{IsSound}
-use Rattle.uart_chip.proofs.Bits.{or_assoc}
-use Rattle.uart_chip.proofs.conservation.Went.{Modes, Went, went-trans}
-use Rattle.uart_chip.proofs.conservation.Passed.{passed-mark}
-use Rattle.uart_chip.proofs.conservation.BlockLaws.{IsOpen}
-use Rattle.uart_run.specs.Wired.{IsWired}
-use Rattle.uart_run.proofs.SizeKept.{fits_by}
-use Rattle.uart_ring.specs.Ring.{RingFields, ring_fields, waiting}
-use Rattle.uart_ring.specs.Lossless.{data_written, data_read, untold_line}
-use Rattle.uart_ring.proofs.Losses.{data_written-append, data_read-append}
+use Rattle.uart_ring.specs.Ring.{waiting}
 use Rattle.uart_ring.proofs.RegisterBits.{saved_lsr-append}
-use Rattle.uart_ring_runs.specs.declared.call.RingCall.{RingCall}
 use Rattle.uart_ring_runs.specs.declared.call.RingCall.TheVariants as call
-use Rattle.uart_ring_runs.specs.declared.call.RingAnswer.{RingAnswer}
-use Rattle.uart_ring_runs.specs.RingRun.{RingState, under, ring_machine, IsOfRings, RingCallStep}
-use Rattle.uart_ring_runs.specs.RingBytes.{to_send, to_take, queued_by, gone_in, KeepsOrder}
-use Rattle.uart_ring_runs.proofs.RingLasts.{wired_call}
-use Rattle.uart_ring_runs.proofs.RingRts.{modes_at, InRingSession}
-use Rattle.uart_ring_runs.proofs.RingPasses.{RingPasses, InLine, ring_passes_call, untold_line_of}
-use Rattle.uart_ring_runs.proofs.RingMeanings.{in_order}
 
 -- from s to t these events came and these accesses were made: what was written to DATA, and then what waits, is what
 -- waited and what was queued, if the order was kept; what left the receive ring and what is left of it was there or was

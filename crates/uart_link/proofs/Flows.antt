@@ -1,41 +1,16 @@
 -- Flow control loses nothing in its direction: over numbers, and then over calls of a link.
-use Rattle.std.proofs.Common.{◌≡◌, ◌⊎◌, inl, inr, ◌≤◌, ◌<◌, ◌+◌, ◌-◌, ℕ, Bool, true, false, nat_lt, List, [], ◌∷◌, length}
-use Rattle.std.proofs.Common.{length-append, refl, sym, ◌∙◌, ap, subst, arith, Option, Some, None}
-use Rattle.std.specs.List.{AllByRecursion}
-use Rattle.std.proofs.lemmas.Grind.{common_steps}
-use Rattle.std.proofs.lemmas.List.{length-drop, length-map}
-use Rattle.uart_spec.specs.Bits.{has_any}
+use Rattle.uart_link.proofs.Names.{◌≡◌, ◌⊎◌, inl, inr, ◌≤◌, ◌<◌, ◌+◌, ◌-◌, ℕ, Bool, true, false, nat_lt, List, [], ◌∷◌, length}
+use Rattle.uart_link.proofs.Names.{length-append, refl, sym, ◌∙◌, ap, subst, arith, Option, Some, None, AllByRecursion, common_steps}
+use Rattle.uart_link.proofs.Names.{length-drop, length-map, has_any, settings_of, Shifting, TransmitterState, held, shift_bytes, waiting}
+use Rattle.uart_link.proofs.Names.{IsSound, Drop, drop_split, drop_receivers, Modes, characters, at_least_16, room_within, most_held}
+use Rattle.uart_link.proofs.Names.{ring_fields, RingCall, RingAnswer, RingState, ring_machine, Moment, Side, Left, Right, Link, on_cable}
+use Rattle.uart_link.proofs.Names.{receiver_at, IsJoined, OfEnd, Pace, beyond, receive_room, hold_of, AdjustsIfAny, SeesLines, IsPacedStep}
+use Rattle.uart_link.proofs.Names.{arrived_in, since_call, since_at, AllInTime, BeginsPaced, IsPaced, DropsNothing, at_end, other, EndStep}
+use Rattle.uart_link.proofs.Names.{Step, LinkChain}
 use Rattle.uart_spec.specs.declared.registers.modem_control.TheConstants.MCR
-use Rattle.uart_16550.specs.Driver.{settings_of}
-use Rattle.uart_chip.specs.declared.transmitter.Shifting.{Shifting}
-use Rattle.uart_chip.specs.Transmitter.{TransmitterState, held, shift_bytes}
-use Rattle.uart_chip.specs.Conserved.{waiting}
-use Rattle.uart_chip.specs.Sound.{IsSound}
-use Rattle.uart_chip.proofs.conservation.Receives.{Drop, drop_split}
-use Rattle.uart_chip.proofs.conservation.SessionLaws.{drop_receivers}
-use Rattle.uart_chip.proofs.conservation.Went.{Modes}
-use Rattle.uart_spec.specs.FifoSize.{characters}
-use Rattle.uart_chip.proofs.Sizes.{at_least_16, room_within}
-use Rattle.uart_run.specs.Progress.{most_held}
-use Rattle.uart_ring.specs.Ring.{ring_fields}
-use Rattle.uart_ring_runs.specs.declared.call.RingCall.{RingCall}
 use Rattle.uart_ring_runs.specs.declared.call.RingCall.TheVariants as call
-use Rattle.uart_ring_runs.specs.declared.call.RingAnswer.{RingAnswer}
-use Rattle.uart_ring_runs.specs.RingRun.{RingState, ring_machine}
-use Rattle.uart_link.specs.declared.call.Moment.{Moment}
-use Rattle.uart_link.specs.declared.call.Side.{Side}
-use Rattle.uart_link.specs.declared.call.Side.TheVariants.{Left, Right}
-use Rattle.uart_link.specs.declared.link.Link.{Link}
-use Rattle.uart_link.specs.Cable.{on_cable}
-use Rattle.uart_link.specs.Carried.{receiver_at, IsJoined, OfEnd}
-use Rattle.uart_link.specs.Flow.{Pace, beyond, receive_room, hold_of, AdjustsIfAny, SeesLines, IsPacedStep, arrived_in, since_call}
-use Rattle.uart_link.specs.Flow.{since_at, AllInTime, BeginsPaced, IsPaced, DropsNothing}
-use Rattle.uart_link.specs.Link.{at_end, other, EndStep, Step, LinkChain}
-use Rattle.uart_link.proofs.Calm.{no_drop_same}
+use Rattle.uart_link.proofs.{Calm.no_drop_same, EndPasses.InEnd, LinkSteps.link_chain, LinkSteps.joined_after, Stretches.same_rooms}
 use Rattle.uart_link.proofs.EndFlows.{waits, in_ring, sent_of, IsHeldBack, KeepsMcr, IsRtsOff, EndKept, EndFlows, end_moves, rts_off}
-use Rattle.uart_link.proofs.EndPasses.{InEnd}
-use Rattle.uart_link.proofs.LinkSteps.{link_chain, joined_after}
-use Rattle.uart_link.proofs.Stretches.{same_rooms}
 
 -- ---- numbers
 

@@ -1,21 +1,13 @@
 -- A driver that checks CTS writes no byte while CTS is clear.
-use Rattle.std.proofs.Common.{◌≡◌, ℕ, Bool, true, false, MatchBool, List, [], ◌++◌, take, refl, ◌∙◌, ap, subst, inl, inr}
-use Rattle.std.specs.List.{AllByRecursion}
-use Rattle.uart_spec.specs.Bits.{has}
-use Rattle.uart_spec.specs.declared.access.Access.{Access}
-use Rattle.uart_spec.specs.declared.access.Access.TheVariants.{Read, Write}
+use Rattle.uart_link.proofs.Names.{◌≡◌, ℕ, Bool, true, false, MatchBool, List, [], ◌++◌, take, refl, ◌∙◌, ap, subst, inl, inr}
+use Rattle.uart_link.proofs.Names.{AllByRecursion, has, Access, Read, Write, Settings, Then, Asks, Fields, settings_of, Sends, SendHit}
+use Rattle.uart_link.proofs.Names.{LinesAllow, each-front, each-back, RingDoing, data_written, data_written-append, sends_move}
+use Rattle.uart_link.proofs.Names.{receives_move}
 use Rattle.uart_spec.specs.declared.registers.line_status.TheConstants.LSR
 use Rattle.uart_spec.specs.declared.registers.modem_control.TheConstants.MCR
 use Rattle.uart_spec.specs.declared.registers.modem_status.TheConstants.MSR
 use Rattle.uart_spec.specs.declared.registers.offsets.TheConstants as offsets
-use Rattle.uart_16550.specs.Grammar.{Settings, Then, Asks}
-use Rattle.uart_16550.specs.Driver.{Fields, settings_of}
-use Rattle.uart_16550.specs.Transmit.{Sends, SendHit, LinesAllow}
-use Rattle.uart_chip.proofs.Lists.{each-front, each-back}
-use Rattle.uart_ring.specs.Ring.{RingDoing}
-use Rattle.uart_ring.specs.Lossless.{data_written}
 use Rattle.uart_ring_runs.proofs.RingWalk.{Walks, InRings}
-use Rattle.uart_ring.proofs.Losses.{data_written-append, sends_move, receives_move}
 use Rattle.uart_ring.proofs.Pausing.{ChangesIer, joined_with, rid_of}
 
 -- ---- lists that show whether the other end holds this one back

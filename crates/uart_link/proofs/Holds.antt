@@ -1,50 +1,30 @@
 -- What a ring call makes of the hold, of what was told last, of the bytes that wait, and of those that came: while the transmit ring is
 -- held, only an urgent byte leaves the rings.
-use Rattle.std.proofs.Common.{◌≡◌, inl, inr, ◌≤◌, ◌+◌, ◌-◌, ◌==◌, ℕ, zero, suc, nat_lt, Bool, true, false, not, MatchBool}
-use Rattle.std.proofs.Common.{List, [], ◌∷◌, ◌++◌, length, length-append, length-take, length-drop, append-nil, append_assoc, take, drop}
-use Rattle.std.proofs.Common.{min, Option, Some, None, Result, refl, sym, ◌∙◌, ap, subst, arith}
-use Rattle.std.proofs.lemmas.Grind.{common_steps}
-use Rattle.std.proofs.lemmas.List.{drop-append-le}
-use Rattle.std.specs.Prelude.{MatchOption, option_to_list}
-use Rattle.uart_spec.specs.declared.access.Access.{Access}
+use Rattle.uart_link.proofs.Names.{◌≡◌, inl, inr, ◌≤◌, ◌+◌, ◌-◌, ◌==◌, ℕ, zero, suc, nat_lt, Bool, true, false, not, MatchBool, List, []}
+use Rattle.uart_link.proofs.Names.{◌∷◌, ◌++◌, length, length-append, length-take, length-drop, append-nil, append_assoc, take, drop, min}
+use Rattle.uart_link.proofs.Names.{Option, Some, None, Result, refl, sym, ◌∙◌, ap, subst, arith, common_steps, drop-append-le, MatchOption}
+use Rattle.uart_link.proofs.Names.{option_to_list, Access, InterruptType, settings_of, Settings, Enables, Disables, Sends, each-append}
+use Rattle.uart_link.proofs.Names.{Queue, latest, RingDoing, RingFields, OnDriver, Stays, RingTimes, IfAny, ring_fields, free, is_full}
+use Rattle.uart_link.proofs.Names.{sendable, allowed, urgent_left, with_driver, with_queued, with_received, with_hold, with_urgent}
+use Rattle.uart_link.proofs.Names.{with_told_xoff, without_taken, looked, with_rounds, with_paused, RingSets, cleared, Implies, Pumps}
+use Rattle.uart_link.proofs.Names.{ResumesTransmit, Holds, Releases, PausesIfFull, FillsReceiveRing, EndsPause, MakesRtsIfAny, rts_at}
+use Rattle.uart_link.proofs.Names.{to_tell, flow_character, TellsIfAny, AdjustsRts, AdjustsXoff, is_flow_character, xon, Obeys}
+use Rattle.uart_link.proofs.Names.{ReceiveMarks, Handled, RingCall, RingAnswer, RingState, to_send_with, IsText, TellsInTurn}
+use Rattle.uart_link.proofs.Names.{CabledCallStep, xoff_hold_of, urged_by, MayTell}
 use Rattle.uart_spec.specs.declared.registers.interrupt_enable.TheConstants.IER
-use Rattle.uart_spec.specs.declared.registers.interrupt_type.InterruptType.{InterruptType}
 use Rattle.uart_spec.specs.declared.registers.interrupt_type.InterruptType.TheVariants as interrupts
-use Rattle.uart_16550.specs.Driver.{settings_of}
-use Rattle.uart_16550.specs.Grammar.{Settings}
-use Rattle.uart_16550.specs.Status.{Enables, Disables}
-use Rattle.uart_16550.specs.Transmit.{Sends}
-use Rattle.uart_chip.proofs.Lists.{each-append}
-use Rattle.uart_ring.specs.Queue.{Queue, latest}
-use Rattle.uart_ring.specs.Ring.{RingDoing, RingFields, OnDriver, Stays, RingTimes, IfAny, ring_fields, free, is_full, waiting, sendable}
-use Rattle.uart_ring.specs.Ring.{allowed, urgent_left, with_driver, with_queued, with_received, with_hold, with_urgent, with_told_xoff}
-use Rattle.uart_ring.specs.Ring.{without_taken, looked}
-use Rattle.uart_ring.specs.Ring.{with_rounds, with_paused, RingSets, cleared}
-use Rattle.uart_ring.specs.Lossless.{Implies}
-use Rattle.uart_ring.specs.Transmit.{Pumps, ResumesTransmit, Holds}
-use Rattle.uart_ring.specs.Transmit.{Releases}
-use Rattle.uart_ring.specs.Receive.{PausesIfFull, FillsReceiveRing, EndsPause, MakesRtsIfAny, rts_at, to_tell, flow_character, TellsIfAny}
-use Rattle.uart_ring.specs.Receive.{AdjustsRts, AdjustsXoff, is_flow_character, xon, Obeys}
+use Rattle.uart_ring.specs.Ring.{waiting}
 use Rattle.uart_ring.specs.Service.{ServesInterrupt, ServesOne, Stops, ServesUpTo, Services}
 use Rattle.uart_ring.specs.Handle.{RetriggersUnlessIdle, Handles}
 use Rattle.uart_ring.specs.Storm.{LooksOnceMore, CountsUnfinished, CountsRound, HandlesRound, StaysStuck, TriesToHandle, counts_as}
 use Rattle.uart_ring.specs.Storm.{Restarts}
 use Rattle.uart_ring.specs.Storm.{has_moved, round_limit}
-use Rattle.uart_ring.specs.declared.ring.receive.ReceiveMarks.{ReceiveMarks}
 use Rattle.uart_ring.specs.declared.ring.storm.StuckError.{StuckError}
 use Rattle.uart_ring.specs.declared.ring.service.TheConstants.{MAX_INTERRUPTS}
 use Rattle.uart_ring.specs.declared.ring.service.HandleEnd.{HandleEnd}
 use Rattle.uart_ring.specs.declared.ring.service.HandleEnd.TheVariants.{Idle, Unknown, Limit}
-use Rattle.uart_ring.specs.declared.ring.service.Handled.{Handled}
-use Rattle.uart_ring_runs.specs.declared.call.RingCall.{RingCall}
 use Rattle.uart_ring_runs.specs.declared.call.RingCall.TheVariants as call
-use Rattle.uart_ring_runs.specs.declared.call.RingAnswer.{RingAnswer}
 use Rattle.uart_ring_runs.specs.declared.call.RingAnswer.TheVariants as answers
-use Rattle.uart_ring_runs.specs.RingRun.{RingState}
-use Rattle.uart_ring_runs.specs.RingBytes.{to_send_with}
-use Rattle.uart_link.specs.Agreed.{IsText, TellsInTurn}
-use Rattle.uart_link.specs.Link.{CabledCallStep}
-use Rattle.uart_link.specs.Xoff.{xoff_hold_of, urged_by, MayTell}
 
 -- ---- what the rings do
 

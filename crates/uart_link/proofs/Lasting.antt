@@ -1,21 +1,9 @@
 -- What no access and no event changes of a chip stays at both ends of a link.
-use Rattle.std.proofs.Common.{◌≡◌, ◌⊎◌, inl, inr, List, sym, subst}
-use Rattle.uart_spec.specs.Access.{Path}
-use Rattle.uart_spec.specs.declared.access.Access.{Access}
-use Rattle.uart_chip.specs.Chip.{ChipState}
-use Rattle.uart_chip.specs.Machine.{MachineState, MachineStep}
-use Rattle.uart_run.proofs.Chains.{chain_keeps}
+use Rattle.uart_link.proofs.Names.{◌≡◌, ◌⊎◌, inl, inr, List, sym, subst, Path, Access, ChipState, MachineState, MachineStep, chain_keeps}
+use Rattle.uart_link.proofs.Names.{RingCall, RingAnswer, RingState, ring_machine, Moment, Side, Left, Right, Link, settled, at_end, other}
+use Rattle.uart_link.proofs.Names.{CabledCallStep, EndStep, LinkCallStep, Step, LinkChain}
 use Rattle.uart_run.proofs.Sessions.{Lasts}
-use Rattle.uart_ring_runs.specs.declared.call.RingCall.{RingCall}
 use Rattle.uart_ring_runs.specs.declared.call.RingCall.TheVariants as call
-use Rattle.uart_ring_runs.specs.declared.call.RingAnswer.{RingAnswer}
-use Rattle.uart_ring_runs.specs.RingRun.{RingState, ring_machine}
-use Rattle.uart_link.specs.declared.call.Moment.{Moment}
-use Rattle.uart_link.specs.declared.call.Side.{Side}
-use Rattle.uart_link.specs.declared.call.Side.TheVariants.{Left, Right}
-use Rattle.uart_link.specs.declared.link.Link.{Link}
-use Rattle.uart_link.specs.Cable.{settled}
-use Rattle.uart_link.specs.Link.{at_end, other, CabledCallStep, EndStep, LinkCallStep, Step, LinkChain}
 
 -- a call made accesses, or let all moments happen
 abbrev pub Called : RingState → RingState → Type 0

@@ -1,15 +1,8 @@
 -- Parts in the middle of a run: what is asked for where one begins holds if it held where the run began.
-use Rattle.std.proofs.Common.{◌≡◌, List, [], ◌++◌, length, length-append, inl, refl, ◌∙◌, ap, arith, subst}
-use Rattle.uart_chip.specs.Conserved.{out}
-use Rattle.uart_ring_runs.specs.RingBytes.{to_send}
-use Rattle.uart_ring_runs.specs.RingRun.{ring_machine}
-use Rattle.uart_link.specs.declared.call.Side.{Side}
-use Rattle.uart_link.specs.declared.link.Link.{Link}
-use Rattle.uart_link.specs.Carried.{queued_at, AllKeepOrderAt}
+use Rattle.uart_link.proofs.Names.{◌≡◌, List, [], ◌++◌, length, length-append, inl, refl, ◌∙◌, ap, arith, subst, out, to_send, ring_machine}
+use Rattle.uart_link.proofs.Names.{Side, Link, queued_at, AllKeepOrderAt, at_end, other, Step, LinkConserves, HasJournals, HasRounds}
+use Rattle.uart_link.proofs.Names.{enough_ticks, enough_rounds, transmitter_at}
 use Rattle.uart_link.specs.Later.{PartsGoOn}
-use Rattle.uart_link.specs.Link.{at_end, other, Step}
-use Rattle.uart_link.specs.Parts.{LinkConserves}
-use Rattle.uart_link.specs.Progress.{HasJournals, HasRounds, enough_ticks, enough_rounds, transmitter_at}
 use Rattle.uart_link.proofs.Rounds.{joined_chains, order_front, order_back, queued_append}
 
 -- room at the beginning for all that is queued is room in each part

@@ -1,19 +1,10 @@
 -- What accesses leave of a schedule of which a part is known, and what they leave on the wire.
-use Rattle.std.proofs.Common.{◌≡◌, ℕ, Bool, true, false, ◌==◌, nat_lt, List, [], ◌∷◌, ◌++◌, length, replicate, Option, Some, None}
-use Rattle.std.proofs.Common.{append_assoc, append-nil, refl, sym, ◌∙◌, ap, if◌then◌else◌}
-use Rattle.uart_events.specs.declared.event.Event.{Event}
-use Rattle.uart_events.specs.declared.event.Event.TheVariants.{Arrive, Access as Gate, Mark}
-use Rattle.uart_spec.specs.Access.{Path}
-use Rattle.uart_spec.specs.declared.access.Access.{Access}
-use Rattle.uart_spec.specs.declared.access.Access.TheVariants.{Read, Write}
+use Rattle.uart_link.proofs.Names.{◌≡◌, ℕ, Bool, true, false, ◌==◌, nat_lt, List, [], ◌∷◌, ◌++◌, length, replicate, Option, Some, None}
+use Rattle.uart_link.proofs.Names.{append_assoc, append-nil, refl, sym, ◌∙◌, ap, if◌then◌else◌, Event, Arrive, Gate, Mark, Path, Access}
+use Rattle.uart_link.proofs.Names.{Read, Write, Shifting, TransmitterState, shift, refill, load, room, ChipState, cut_of, is_dlab_set}
+use Rattle.uart_link.proofs.Names.{after_write, MachineState, MachineStep, at_access, after_access, after_mark, Lasts, lasts-read}
+use Rattle.uart_link.proofs.Names.{lasts-write, lasts-before, lasts-before_mark, unknown, settled, AllUnmarked}
 use Rattle.uart_spec.specs.declared.registers.offsets.TheConstants as offsets
-use Rattle.uart_chip.specs.declared.transmitter.Shifting.{Shifting}
-use Rattle.uart_chip.specs.Transmitter.{TransmitterState, shift, refill, load, room}
-use Rattle.uart_chip.specs.Chip.{ChipState, cut_of, is_dlab_set, after_write}
-use Rattle.uart_chip.specs.Machine.{MachineState, MachineStep, at_access, after_access, after_mark}
-use Rattle.uart_chip.proofs.lasting.Lasting.{Lasts, lasts-read, lasts-write, lasts-before, lasts-before_mark}
-use Rattle.uart_link.specs.Cable.{unknown, settled}
-use Rattle.uart_link.specs.Known.{AllUnmarked}
 
 -- ---- the schedule
 

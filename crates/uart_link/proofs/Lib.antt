@@ -1,3 +1,4 @@
+mod Names
 pub mod Schedules
 pub mod Wireds
 pub mod Arranges

@@ -1,23 +1,13 @@
 -- The outputs of one end are the lines of the other.
-use Rattle.std.proofs.Common.{◌≡◌, ℕ, Bool, true, false, not, ◌&&◌, [], ◌∷◌, refl, ◌∙◌, ap, if◌then◌else◌}
-use Rattle.std.proofs.Math.Bool.{or-true}
-use Rattle.uart_spec.specs.Bits.{has_any}
-use Rattle.uart_spec.specs.declared.access.Access.TheVariants.{Read, Write}
+use Rattle.uart_link.proofs.Names.{◌≡◌, ℕ, Bool, true, false, not, ◌&&◌, [], ◌∷◌, refl, ◌∙◌, ap, if◌then◌else◌, or-true, has_any, Read}
+use Rattle.uart_link.proofs.Names.{Write, Made, backend_of, switched, unlooped, SetsControl, SetsOutput, has_and, has_not, has_or}
+use Rattle.uart_link.proofs.Names.{ChipState, is_loopback, is_auto_flow, rts_output, is_data_pending, MachineState, MachineStep, kept_mcr}
+use Rattle.uart_link.proofs.Names.{kept_bit, Kept, kept_list, lines_joined, lines_from}
 use Rattle.uart_spec.specs.declared.registers.modem_control.TheConstants.MCR
 use Rattle.uart_spec.specs.declared.registers.modem_status.TheConstants.MSR
 use Rattle.uart_spec.specs.declared.registers.offsets.TheConstants as offsets
-use Rattle.uart_16550.specs.Driver.{Made, backend_of}
-use Rattle.uart_16550.specs.Frame.{switched, unlooped, SetsControl, SetsOutput}
 use Rattle.uart_16550.specs.declared.driver.Uart16550.{Uart16550}
-use Rattle.uart_chip.proofs.Bits.{has_and, has_not, has_or}
-use Rattle.uart_chip.specs.Chip.{ChipState, is_loopback, is_auto_flow, rts_output}
-use Rattle.uart_chip.specs.Receiver.{is_data_pending}
-use Rattle.uart_chip.specs.Machine.{MachineState, MachineStep}
-use Rattle.uart_chip.specs.Masks.{kept_mcr}
-use Rattle.uart_chip.proofs.McrBits.{kept_bit}
 use Rattle.uart_run.proofs.FrameLaws.{unlooped_off}
-use Rattle.uart_run.proofs.Latches.{Kept, kept_list}
-use Rattle.uart_link.specs.Cable.{lines_joined, lines_from}
 
 -- ---- the lines by RTS and DTR
 

@@ -1,52 +1,20 @@
 -- What a link carries.
-use Rattle.std.proofs.Common.{◌≡◌, ℕ, ◌+◌, ◌≤◌, true, List, [], ◌∷◌, ◌++◌, length, drop, map, append_assoc, refl, sym, ◌∙◌, ap, arith}
-use Rattle.std.specs.List.{filter}
-use Rattle.std.proofs.lemmas.List.{drop-append-le, map-append, map-id}
-use Rattle.std.proofs.lemmas.List.Elements.{filter-append}
-use Rattle.uart_events.specs.declared.event.ArrivalMark.TheVariants.{Pending}
-use Rattle.uart_events.specs.declared.event.Event.{Event}
-use Rattle.uart_chip.proofs.conservation.Went.{Modes, dlab-in, loopback-in}
-use Rattle.uart_chip.specs.Conserved.{stands, waiting, arriving, cut_character, out}
-use Rattle.uart_chip.specs.Receiver.{ReceiverState, mark_at}
-use Rattle.uart_chip.specs.Sound.{IsSound}
-use Rattle.uart_chip.specs.Transmitter.{held}
-use Rattle.uart_chip.specs.declared.receiver.Character.{Character}
-use Rattle.uart_chip.specs.declared.receiver.Origin.TheVariants.{Arrived}
-use Rattle.uart_run.proofs.CallLaws.{InSession}
+use Rattle.uart_link.proofs.Names.{◌≡◌, ℕ, ◌+◌, ◌≤◌, true, List, [], ◌∷◌, ◌++◌, length, drop, map, append_assoc, refl, sym, ◌∙◌, ap, arith}
+use Rattle.uart_link.proofs.Names.{filter, drop-append-le, map-append, map-id, filter-append, Pending, Event, Modes, dlab-in, loopback-in}
+use Rattle.uart_link.proofs.Names.{stands, waiting, arriving, cut_character, out, ReceiverState, mark_at, IsSound, held, Character, Arrived}
+use Rattle.uart_link.proofs.Names.{InSession, IsWired, data_written, data_read, modes_at, begins_session, to_send, to_take, RingState}
+use Rattle.uart_link.proofs.Names.{under, ring_machine, Side, Left, Right, Link, brought, numbered, on_cable, on_the_way, to_be_taken}
+use Rattle.uart_link.proofs.Names.{receiver_at, not_dropped, Carries, IsJoined, BothReady, NoneCut, AllKeepOrderAt, all_sent, queued_at}
+use Rattle.uart_link.proofs.Names.{bytes_gone, Queues, at_end, other, Step, LinkChain, LinkConserves, StaysAt, NoLineAt}
 use Rattle.uart_run.proofs.Uncuts.{whole_cut}
 use Rattle.uart_run.specs.Ready.{Ready}
 use Rattle.uart_run.specs.Uncut.{IsUncut}
-use Rattle.uart_run.specs.Wired.{IsWired}
-use Rattle.uart_ring.specs.Lossless.{data_written, data_read}
-use Rattle.uart_ring_runs.proofs.RingRts.{modes_at, begins_session}
-use Rattle.uart_ring_runs.specs.RingBytes.{to_send, to_take}
-use Rattle.uart_ring_runs.specs.RingRun.{RingState, under, ring_machine}
-use Rattle.uart_link.specs.declared.call.Side.{Side}
-use Rattle.uart_link.specs.declared.call.Side.TheVariants.{Left, Right}
-use Rattle.uart_link.specs.declared.link.Link.{Link}
-use Rattle.uart_link.specs.Brought.{brought, numbered}
-use Rattle.uart_link.specs.Cable.{on_cable}
-use Rattle.uart_link.specs.Carried.{on_the_way, to_be_taken, receiver_at, not_dropped, Carries, IsJoined, BothReady, NoneCut}
-use Rattle.uart_link.specs.Carried.{AllKeepOrderAt, all_sent, queued_at, bytes_gone, Queues}
-use Rattle.uart_link.specs.Link.{at_end, other, Step, LinkChain}
-use Rattle.uart_link.specs.Parts.{LinkConserves}
-use Rattle.uart_link.specs.Stays.{StaysAt}
-use Rattle.uart_link.specs.Told.{NoLineAt}
-use Rattle.uart_link.proofs.Agrees.{keeps_agreed}
-use Rattle.uart_link.proofs.Crossings.{arriving_numbered}
-use Rattle.uart_link.proofs.EndActs.{arrived_after}
-use Rattle.uart_link.proofs.EndPasses.{InEnd, EndPasses}
-use Rattle.uart_link.proofs.AutoFlows.{chips_drop_nothing}
-use Rattle.uart_link.proofs.Flows.{drops_nothing}
-use Rattle.uart_link.proofs.LinkSteps.{Brings, LinkPasses, link_chain, joined_after}
-use Rattle.uart_link.proofs.LinkTold.{tells_drops}
-use Rattle.uart_link.proofs.Stays.{stays}
-use Rattle.uart_link.proofs.Stretches.{Going}
+use Rattle.uart_link.proofs.{Agrees.keeps_agreed, Crossings.arriving_numbered, EndActs.arrived_after, EndPasses.InEnd, EndPasses.EndPasses}
+use Rattle.uart_link.proofs.{AutoFlows.chips_drop_nothing, Flows.drops_nothing, LinkSteps.Brings, LinkSteps.LinkPasses}
+use Rattle.uart_link.proofs.{LinkSteps.link_chain, LinkSteps.joined_after, LinkTold.tells_drops, Stays.stays, Stretches.Going}
+use Rattle.uart_link.proofs.{Takings.takes_all_gone, Wholes.delivers, Wholes.carries_all, XoffEnds.all_tell_and_hold}
+use Rattle.uart_link.proofs.{XoffFlows.xoff_drops_nothing}
 use Rattle.uart_link.proofs.Rounds.{progresses, empties_receiver, keeps_rts_on, all_leave_armed}
-use Rattle.uart_link.proofs.Takings.{takes_all_gone}
-use Rattle.uart_link.proofs.Wholes.{delivers, carries_all}
-use Rattle.uart_link.proofs.XoffEnds.{all_tell_and_hold}
-use Rattle.uart_link.proofs.XoffFlows.{xoff_drops_nothing}
 
 -- ---- characters that have not arrived are not dropped
 

@@ -1,26 +1,11 @@
 -- Every call of a link leaves both machines sound, and what is proved of runs.
-use Rattle.std.proofs.Common.{◌≡◌, inl, inr, ℕ, ◌≤◌, List, length, take, sym, subst}
-use Rattle.uart_chip.specs.Machine.{MachineState}
-use Rattle.uart_chip.specs.Sound.{IsSound}
-use Rattle.uart_chip.proofs.soundness.Sounds.{sound_mark, sound_path}
-use Rattle.uart_run.specs.Chains.{RunOf}
-use Rattle.uart_run.specs.Wired.{IsWired, IsWiredChip}
-use Rattle.uart_run.proofs.Chains.{chain_keeps, run_whole}
-use Rattle.uart_run.proofs.Sessions.{lasts_wired}
-use Rattle.uart_ring_runs.specs.declared.call.RingCall.{RingCall}
-use Rattle.uart_ring_runs.specs.declared.call.RingAnswer.{RingAnswer}
-use Rattle.uart_ring_runs.specs.RingRun.{RingState, ring_machine, under}
+use Rattle.uart_link.proofs.Names.{◌≡◌, inl, inr, ℕ, ◌≤◌, List, length, take, sym, subst, MachineState, IsSound, sound_mark, sound_path}
+use Rattle.uart_link.proofs.Names.{RunOf, IsWired, IsWiredChip, chain_keeps, run_whole, lasts_wired, RingCall, RingAnswer, RingState}
+use Rattle.uart_link.proofs.Names.{ring_machine, under, Moment, Side, Left, Right, Link, settled, at_end, other, EndStep, LinkCallStep}
+use Rattle.uart_link.proofs.Names.{RanLink}
 use Rattle.uart_link.specs.declared.call.LinkCall.{LinkCall}
-use Rattle.uart_link.specs.declared.call.Moment.{Moment}
-use Rattle.uart_link.specs.declared.call.Side.{Side}
-use Rattle.uart_link.specs.declared.call.Side.TheVariants.{Left, Right}
-use Rattle.uart_link.specs.declared.link.Link.{Link}
-use Rattle.uart_link.specs.Cable.{settled}
-use Rattle.uart_link.specs.Link.{at_end, other, EndStep, LinkCallStep}
-use Rattle.uart_link.specs.Parts.{RanLink}
-use Rattle.uart_link.proofs.EndActs.{sound_settled, sound_arranged}
-use Rattle.uart_link.proofs.Lasting.{Called, called, lasts_chain}
-use Rattle.uart_link.proofs.LinkLaws.{link_conserves}
+use Rattle.uart_link.proofs.{EndActs.sound_settled, EndActs.sound_arranged, Lasting.Called, Lasting.called, Lasting.lasts_chain}
+use Rattle.uart_link.proofs.{LinkLaws.link_conserves}
 
 sound_called : (s t : RingState) → IsSound (ring_machine s) → Called s t → IsSound (ring_machine t)
 sound_called s t w (inl h) = sound_path h.0 (ring_machine s) (ring_machine t) w h.1

@@ -1,30 +1,14 @@
 -- What calls of a link do at both ends, and to the bytes that cross the cable.
-use Rattle.std.proofs.Common.{◌≡◌, ◌≢◌, ℕ, List, [], ◌∷◌, ◌++◌, map, length-append, append_assoc, append-nil, refl, sym, ◌∙◌, ap, subst}
-use Rattle.std.proofs.Common.{arith}
-use Rattle.std.proofs.lemmas.List.{drop-append-le, map-append}
-use Rattle.uart_events.specs.declared.event.Event.{Event}
-use Rattle.uart_chip.specs.Machine.{MachineState}
-use Rattle.uart_chip.proofs.Lists.{each-append}
-use Rattle.uart_chip.proofs.conservation.Went.{Modes, went-refl}
-use Rattle.uart_ring_runs.proofs.RingRts.{modes_at}
-use Rattle.uart_ring_runs.specs.declared.call.RingCall.{RingCall}
+use Rattle.uart_link.proofs.Names.{◌≡◌, ◌≢◌, ℕ, List, [], ◌∷◌, ◌++◌, map, length-append, append_assoc, append-nil, refl, sym, ◌∙◌, ap}
+use Rattle.uart_link.proofs.Names.{subst, arith, drop-append-le, map-append, Event, MachineState, each-append, Modes, went-refl, modes_at}
+use Rattle.uart_link.proofs.Names.{RingCall, RingAnswer, RingState, ring_machine, to_take, queued_by, taken_by, gone_in, KeepsOrder, Moment}
+use Rattle.uart_link.proofs.Names.{Side, Left, Right, Link, brought, AllClean, IsClean, IsBrought, Gone, Taken, Cleared, byte_of, left_in}
+use Rattle.uart_link.proofs.Names.{of_end, OfEnd, queued_at, gone_at, bytes_gone, AllKeepOrderAt, IsJoined, at_end, other, EndStep, Step}
+use Rattle.uart_link.proofs.Names.{LinkChain, NoLineAt}
 use Rattle.uart_ring_runs.specs.declared.call.RingCall.TheVariants as call
-use Rattle.uart_ring_runs.specs.declared.call.RingAnswer.{RingAnswer}
-use Rattle.uart_ring_runs.specs.RingRun.{RingState, ring_machine}
-use Rattle.uart_ring_runs.specs.RingBytes.{to_take, queued_by, taken_by, gone_in, KeepsOrder}
-use Rattle.uart_link.specs.declared.call.Moment.{Moment}
-use Rattle.uart_link.specs.declared.call.Side.{Side}
-use Rattle.uart_link.specs.declared.call.Side.TheVariants.{Left, Right}
-use Rattle.uart_link.specs.declared.link.Link.{Link}
-use Rattle.uart_link.specs.Brought.{brought, AllClean, IsClean, IsBrought}
-use Rattle.uart_link.specs.Carried.{Gone, Taken, Cleared, byte_of, left_in, of_end, OfEnd, queued_at, gone_at, bytes_gone}
-use Rattle.uart_link.specs.Carried.{AllKeepOrderAt, IsJoined}
-use Rattle.uart_link.specs.Link.{at_end, other, EndStep, Step, LinkChain}
-use Rattle.uart_link.specs.Told.{NoLineAt}
 use Rattle.uart_link.proofs.Crossings.{brought-append, Crosses, crosses-refl, crosses-trans, crosses-more}
-use Rattle.uart_link.proofs.Lefts.{Grown}
-use Rattle.uart_link.proofs.EndActs.{end_acts, grown-trans}
-use Rattle.uart_link.proofs.EndPasses.{InEnd, EndPasses, passes_events, passes-trans}
+use Rattle.uart_link.proofs.{Lefts.Grown, EndActs.end_acts, EndActs.grown-trans, EndPasses.InEnd, EndPasses.EndPasses}
+use Rattle.uart_link.proofs.{EndPasses.passes_events, EndPasses.passes-trans}
 
 -- what has left the chip at an end
 abbrev wire_of : RingState → List ℕ

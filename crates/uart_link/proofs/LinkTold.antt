@@ -1,42 +1,18 @@
 -- That a `take_line` tells of a drop.
-use Rattle.std.proofs.Common.{◌≡◌, ◌⊎◌, inl, inr, ℕ, Bool, true, false, not, ◌||◌, ◌==◌, List, [], ◌∷◌, refl, sym, ◌∙◌, ap, subst, bit_and}
-use Rattle.std.proofs.Common.{bit_or}
+use Rattle.uart_link.proofs.Names.{◌≡◌, ◌⊎◌, inl, inr, ℕ, Bool, true, false, not, ◌||◌, ◌==◌, List, [], ◌∷◌, refl, sym, ◌∙◌, ap, subst}
+use Rattle.uart_link.proofs.Names.{bit_and, bit_or, or_right, Path, saved_lsr, Read, has_any, Event, MachineState, MachineStep}
+use Rattle.uart_link.proofs.Names.{ReceiverState, has_or, passed-look, Drop, drop_split, Owed, Shows, look_clears, drop_receivers, Modes}
+use Rattle.uart_link.proofs.Names.{IsDrop, modes_at, ended, ring_fields, RingAnswer, RingState, RingCalled, ring_machine, line_answer}
+use Rattle.uart_link.proofs.Names.{untold_line_of, RingCall, Moment, Side, Left, Right, Link, IsJoined, at_end, other, EndStep}
+use Rattle.uart_link.proofs.Names.{CabledCallStep, LinkCallStep, Step, LinkChain, TellsDrops}
 use Rattle.std.proofs.lemmas.Nat.{and_assoc}
-use Rattle.std.proofs.lemmas.Bool.{or_right}
-use Rattle.uart_spec.specs.Access.{Path, saved_lsr}
-use Rattle.uart_spec.specs.declared.access.Access.TheVariants.{Read}
-use Rattle.uart_spec.specs.Bits.{has_any}
 use Rattle.uart_spec.specs.declared.registers.line_status.TheConstants.LSR
 use Rattle.uart_spec.specs.declared.registers.offsets.TheConstants as offsets
-use Rattle.uart_events.specs.declared.event.Event.{Event}
-use Rattle.uart_chip.specs.Machine.{MachineState, MachineStep}
-use Rattle.uart_chip.specs.Receiver.{ReceiverState}
-use Rattle.uart_chip.proofs.Bits.{has_or}
-use Rattle.uart_chip.proofs.conservation.BlockLaws.{passed-look}
-use Rattle.uart_chip.proofs.conservation.Receives.{Drop, drop_split, Owed, Shows}
-use Rattle.uart_chip.proofs.conservation.SessionLaws.{look_clears, drop_receivers}
-use Rattle.uart_chip.proofs.conservation.Went.{Modes}
-use Rattle.uart_chip.specs.Conserved.{IsDrop}
-use Rattle.uart_ring_runs.proofs.RingRts.{modes_at}
-use Rattle.uart_run.proofs.Chains.{ended}
-use Rattle.uart_ring.specs.Ring.{ring_fields}
 use Rattle.uart_ring.specs.Status.{TakesLine}
-use Rattle.uart_ring_runs.specs.declared.call.RingAnswer.{RingAnswer}
 use Rattle.uart_ring_runs.specs.declared.call.RingAnswer.TheVariants.{Line}
-use Rattle.uart_ring_runs.specs.RingRun.{RingState, RingCalled, ring_machine, line_answer}
-use Rattle.uart_ring_runs.proofs.RingPasses.{untold_line_of}
-use Rattle.uart_ring_runs.specs.declared.call.RingCall.{RingCall}
 use Rattle.uart_ring_runs.specs.declared.call.RingCall.TheVariants as call
-use Rattle.uart_link.specs.declared.call.Moment.{Moment}
-use Rattle.uart_link.specs.declared.call.Side.{Side}
-use Rattle.uart_link.specs.declared.call.Side.TheVariants.{Left, Right}
-use Rattle.uart_link.specs.declared.link.Link.{Link}
-use Rattle.uart_link.specs.Carried.{IsJoined}
-use Rattle.uart_link.specs.Link.{at_end, other, EndStep, CabledCallStep, LinkCallStep, Step, LinkChain}
-use Rattle.uart_link.specs.Told.{TellsDrops}
-use Rattle.uart_link.proofs.EndActs.{end_begins}
-use Rattle.uart_link.proofs.EndPasses.{InEnd, EndPasses, passes-trans}
-use Rattle.uart_link.proofs.LinkSteps.{LinkPasses, link_chain}
+use Rattle.uart_link.proofs.{EndActs.end_begins, EndPasses.InEnd, EndPasses.EndPasses, EndPasses.passes-trans, LinkSteps.LinkPasses}
+use Rattle.uart_link.proofs.{LinkSteps.link_chain}
 
 -- a mask with the flag leaves it
 masked : (value : ℕ) → has_any (bit_and value LSR.LINE_ERRORS.0) LSR.OVERRUN_ERROR.0 ≡ has_any value LSR.OVERRUN_ERROR.0

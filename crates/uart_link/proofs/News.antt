@@ -1,21 +1,10 @@
 -- A chip that was just made, at a cable on which nothing has been sent yet.
-use Rattle.std.proofs.Common.{◌≤◌, ◌≡◌, ℕ, zero, suc, ◌+◌, Bool, true, false, not, nat_lt, List, [], ◌++◌, length, drop, replicate}
-use Rattle.std.proofs.Common.{Some, None, refl, arith, sym, ◌∙◌, ap, subst, if◌then◌else◌}
-use Rattle.std.specs.List.{position, prefix_len}
-use Rattle.std.proofs.lemmas.Grind.{common_steps}
+use Rattle.uart_link.proofs.Names.{◌≤◌, ◌≡◌, ℕ, zero, suc, Bool, true, false, not, nat_lt, List, [], ◌++◌, length, drop, replicate, Some}
+use Rattle.uart_link.proofs.Names.{None, refl, arith, sym, ◌∙◌, ap, subst, if◌then◌else◌, position, prefix_len, common_steps, Event, Arrive}
+use Rattle.uart_link.proofs.Names.{has_bad_errors, has_bad_lines, refusal, ChipState, FifoSize, MachineState, fresh, cutting, sized}
+use Rattle.uart_link.proofs.Names.{whole_sized, drop_all, IsBrought, unknown, IsKnown}
 use Rattle.uart_events.specs.declared.event.Chip.{Chip}
-use Rattle.uart_events.specs.declared.event.Event.{Event}
-use Rattle.uart_events.specs.declared.event.Event.TheVariants.{Arrive}
-use Rattle.uart_events.specs.Build.{has_bad_errors, has_bad_lines, refusal}
 use Rattle.uart_chip.specs.Chip as chip
-use Rattle.uart_chip.specs.Chip.{ChipState}
-use Rattle.uart_spec.specs.declared.setup.FifoSize.{FifoSize}
-use Rattle.uart_chip.specs.Machine.{MachineState, fresh, cutting, sized}
-use Rattle.uart_chip.proofs.soundness.Builds.{whole_sized}
-use Rattle.std.proofs.lemmas.List.{drop_all}
-use Rattle.uart_link.specs.Brought.{IsBrought}
-use Rattle.uart_link.specs.Cable.{unknown}
-use Rattle.uart_link.specs.Known.{IsKnown}
 use Rattle.uart_link.proofs.Schedules.{arrivals-unknown}
 
 none_at : (p : Event → Bool) (events : List Event) → prefix_len (λ event. not (p event)) events ≡ length events →

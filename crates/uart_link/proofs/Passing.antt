@@ -1,33 +1,19 @@
 -- Time passes at an end, and characters arrive there: what ticks and arrivals bring, whatever calls are made meanwhile.
-use Rattle.std.proofs.Common.{◌≡◌, ℕ, zero, suc, ◌+◌, ◌-◌, ◌*◌, ◌≤◌, ◌==◌, Bool, true, false, nat_lt, List, [], ◌∷◌, ◌++◌, length, Option}
-use Rattle.std.proofs.Common.{Some, None, min, if◌then◌else◌, length-append, refl, sym, ◌∙◌, ap, subst, arith}
-use Rattle.std.proofs.lemmas.Grind.{common_steps}
-use Rattle.uart_events.specs.declared.event.Event.{Event}
-use Rattle.uart_events.specs.declared.event.Event.TheVariants.{Ticks, Arrive, Lines}
-use Rattle.uart_spec.specs.declared.access.Access.TheVariants.{Write}
+use Rattle.uart_link.proofs.Names.{◌≡◌, ℕ, zero, suc, ◌+◌, ◌-◌, ◌*◌, ◌≤◌, ◌==◌, Bool, true, false, nat_lt, List, [], ◌∷◌, ◌++◌, length}
+use Rattle.uart_link.proofs.Names.{Option, Some, None, min, if◌then◌else◌, length-append, refl, sym, ◌∙◌, ap, subst, arith, common_steps}
+use Rattle.uart_link.proofs.Names.{Event, Ticks, Arrive, Lines, Write, steady_tick, steady_ticks, steady_arrive, steady_read, steady_write}
+use Rattle.uart_link.proofs.Names.{latches-read, FifoSize, ChipState, is_loopback, is_held_off, is_dlab_set, is_thr_empty, interrupt, tick}
+use Rattle.uart_link.proofs.Names.{ticks, after_read, after_write, cut_of, control_modem, with_latches, perform, kept_mcr, kept_bit}
+use Rattle.uart_link.proofs.Names.{never_held_off, IsSound, IsSoundChip, IsSoundTransmitter, IsTicking, TransmitterState, shift, refill}
+use Rattle.uart_link.proofs.Names.{load, room, shift_bytes, Shifting, Moment, events_of, unknown, ticks_in, arrives_in}
 use Rattle.uart_spec.specs.declared.registers.offsets.TheConstants as offsets
 use Rattle.uart_chip.proofs.conservation.Sends.{sends-tick}
-use Rattle.uart_chip.proofs.soundness.Sounds.{steady_tick, steady_ticks, steady_arrive, steady_read, steady_write, latches-read}
-use Rattle.uart_spec.specs.declared.setup.FifoSize.{FifoSize}
-use Rattle.uart_chip.specs.Chip.{ChipState, is_loopback, is_held_off, is_dlab_set, is_thr_empty, interrupt, tick, ticks, after_read}
-use Rattle.uart_chip.specs.Chip.{after_write, cut_of}
-use Rattle.uart_chip.specs.Chip.{control_modem, with_latches}
-use Rattle.uart_chip.specs.Machine.{perform}
-use Rattle.uart_chip.specs.Masks.{kept_mcr}
-use Rattle.uart_chip.proofs.McrBits.{kept_bit}
-use Rattle.uart_chip.proofs.AutoFlow.{never_held_off}
 use Rattle.uart_chip.proofs.lasting.Constants.{pace_tick}
 use Rattle.uart_chip.proofs.lasting.FifoSizes.{same_size-ticks}
-use Rattle.uart_chip.specs.Sound.{IsSound, IsSoundChip, IsSoundTransmitter, IsTicking}
-use Rattle.uart_chip.specs.Transmitter.{TransmitterState, shift, refill, out, load, room, shift_bytes}
+use Rattle.uart_chip.specs.Transmitter.{out}
 use Rattle.uart_chip.specs.Transmitter as transmitter
-use Rattle.uart_chip.specs.declared.transmitter.Shifting.{Shifting}
-use Rattle.uart_link.specs.declared.call.Moment.{Moment}
 use Rattle.uart_link.specs.declared.call.Moment.TheVariants as moment
-use Rattle.uart_link.specs.Cable.{events_of, unknown}
-use Rattle.uart_link.specs.Progress.{ticks_in, arrives_in}
-use Rattle.uart_link.proofs.Budgets.{ahead_of, Spends}
-use Rattle.uart_link.proofs.Calm.{IsMild}
+use Rattle.uart_link.proofs.{Budgets.ahead_of, Budgets.Spends, Calm.IsMild}
 
 -- ---- moments as events
 

@@ -1,30 +1,18 @@
 -- An end goes on to send: with an empty holding register, and CTS if it checks that, at least one byte leaves the rings.
-use Rattle.std.proofs.Common.{◌≡◌, ℕ, zero, suc, ◌<◌, ◌≤◌, Bool, true, false, MatchBool, List, [], ◌∷◌, ◌++◌, length, length-append, ◌==◌}
-use Rattle.std.proofs.Common.{nat_lt, if◌then◌else◌, Option, Some, None, take, min, refl, ◌∙◌, ap, subst, arith, inl, inr, append-nil}
-use Rattle.std.proofs.lemmas.List.{length-take}
-use Rattle.uart_spec.specs.Access.{Path}
-use Rattle.uart_spec.specs.Bits.{has}
-use Rattle.uart_spec.specs.declared.access.Access.{Access}
-use Rattle.uart_spec.specs.declared.access.Access.TheVariants.{Read}
+use Rattle.uart_link.proofs.Names.{◌≡◌, ℕ, zero, suc, ◌<◌, ◌≤◌, Bool, true, false, MatchBool, List, [], ◌∷◌, ◌++◌, length, length-append}
+use Rattle.uart_link.proofs.Names.{◌==◌, nat_lt, if◌then◌else◌, Option, Some, None, take, min, refl, ◌∙◌, ap, subst, arith, inl, inr}
+use Rattle.uart_link.proofs.Names.{append-nil, length-take, Path, has, Access, Read, settings_of, Settings, Then, Asks, Never, Sends}
+use Rattle.uart_link.proofs.Names.{SendRefused, LinesAllow, burst_limit, has_one, each-front, each-back, path_as, look_room, Lasts}
+use Rattle.uart_link.proofs.Names.{lasts-before, lasts-read, MachineState, MachineStep, at_access, TransmitterState, shift, refill}
+use Rattle.uart_link.proofs.Names.{Shifting, data_written-append, sends_move, resumes_lose_nothing, data_written, RingFields, IfAny}
+use Rattle.uart_link.proofs.Names.{sendable, Pumps, ResumesTransmit}
 use Rattle.uart_spec.specs.declared.errors.ByteSendError.{ByteSendError}
 use Rattle.uart_spec.specs.declared.errors.ByteSendError.TheVariants.{NoCapacity, RemoteNotClearToSend}
 use Rattle.uart_spec.specs.declared.registers.line_status.TheConstants.LSR
 use Rattle.uart_spec.specs.declared.registers.offsets.TheConstants as offsets
-use Rattle.uart_16550.specs.Driver.{settings_of}
-use Rattle.uart_16550.specs.Grammar.{Settings, Then, Asks, Never}
-use Rattle.uart_16550.specs.Transmit.{Sends, SendRefused, LinesAllow, burst_limit}
 use Rattle.uart_16550.proofs.Languages.{some_limit}
-use Rattle.uart_chip.proofs.Bits.{has_one}
-use Rattle.uart_chip.proofs.Lists.{each-front, each-back}
-use Rattle.uart_chip.proofs.conservation.BlockLaws.{path_as, look_room}
-use Rattle.uart_chip.proofs.lasting.Lasting.{Lasts, lasts-before, lasts-read}
-use Rattle.uart_chip.specs.Machine.{MachineState, MachineStep, at_access}
-use Rattle.uart_chip.specs.Transmitter.{TransmitterState, shift, refill, tick}
-use Rattle.uart_chip.specs.declared.transmitter.Shifting.{Shifting}
-use Rattle.uart_ring.proofs.Losses.{data_written-append, sends_move, resumes_lose_nothing}
-use Rattle.uart_ring.specs.Lossless.{data_written}
-use Rattle.uart_ring.specs.Ring.{RingFields, IfAny, sendable, waiting}
-use Rattle.uart_ring.specs.Transmit.{Pumps, ResumesTransmit}
+use Rattle.uart_chip.specs.Transmitter.{tick}
+use Rattle.uart_ring.specs.Ring.{waiting}
 use Rattle.uart_link.proofs.Held.{AllShowCts, ShowsCts}
 
 -- ---- an empty holding register

@@ -1,48 +1,23 @@
 -- Each round brings a byte nearer; so after rounds enough all has been taken that was queued.
-use Rattle.std.proofs.Common.{◌≡◌, ℕ, zero, suc, ◌+◌, ◌-◌, ◌<◌, ◌≤◌, Bool, true, false, List, [], ◌∷◌, ◌++◌, length, take, drop}
-use Rattle.std.proofs.Common.{append_assoc, length-append, refl, sym, ◌∙◌, ap, subst, arith, nat_lt, filter, map, None, ◌*◌, ◌⊎◌, inl, inr}
-use Rattle.std.proofs.lemmas.Grind.{common_steps}
-use Rattle.std.proofs.lemmas.List.{length-drop, length-map, nil_from_length, take-append-le, take-append-drop, map-append}
-use Rattle.std.proofs.Math.Seq.{take-append_seam}
-use Rattle.std.proofs.lemmas.List.Sums.{length-filter, count_by-le-length}
-use Rattle.uart_events.specs.declared.event.Event.{Event}
-use Rattle.uart_spec.specs.Bits.{has_any}
-use Rattle.uart_spec.specs.declared.access.Access.{Access}
+use Rattle.uart_link.proofs.Names.{◌≡◌, ℕ, zero, suc, ◌+◌, ◌-◌, ◌<◌, ◌≤◌, Bool, true, false, List, [], ◌∷◌, ◌++◌, length, take, drop}
+use Rattle.uart_link.proofs.Names.{append_assoc, length-append, refl, sym, ◌∙◌, ap, subst, arith, nat_lt, filter, map, None, ◌⊎◌, inl, inr}
+use Rattle.uart_link.proofs.Names.{common_steps, length-drop, length-map, nil_from_length, take-append-le, take-append-drop, map-append}
+use Rattle.uart_link.proofs.Names.{take-append_seam, length-filter, count_by-le-length, Event, has_any, Access, never_on, Modes}
+use Rattle.uart_link.proofs.Names.{Went as Stretch, arriving_cut, loopback-in, ChipState, origin_stands, stands, waiting as received, out}
+use Rattle.uart_link.proofs.Names.{ReceiverState, shift_bytes, TransmitterState, held, Character, Origin, IsUnheld, data_written, to_take}
+use Rattle.uart_link.proofs.Names.{to_send, queued_by, RingState, ring_machine, RingCall, Side, Left, Right, Link, brought, on_cable}
+use Rattle.uart_link.proofs.Names.{byte_of, left_in, of_end, receiver_at, to_be_taken, on_the_way, queued_at, gone_at, bytes_gone}
+use Rattle.uart_link.proofs.Names.{AllKeepOrderAt, IsJoined, OfEnd, DropsNothing, CarriesAll, hold_of, at_end, other, Step, EndStep}
+use Rattle.uart_link.proofs.Names.{LinkChain, LinkCallStep, Progresses, PassTime, BringAll, HandlesAll, TakesAll, Begin, Comes, HasRounds}
+use Rattle.uart_link.proofs.Names.{arrives_in, in_calls_at, enough_ticks, chip_at, transmitter_at, NoneAdjusts, KeepsRtsOn, NoneArrives}
+use Rattle.uart_link.proofs.Names.{EmptiesReceiver, SendsOn, LeavesArmed, AllLeaveArmed, NoLineAt}
 use Rattle.uart_spec.specs.declared.registers.modem_control.TheConstants.MCR
-use Rattle.uart_chip.proofs.AutoFlow.{never_on}
-use Rattle.uart_chip.proofs.conservation.Went.{Modes, Went as Stretch, arriving_cut, loopback-in}
-use Rattle.uart_chip.specs.Chip.{ChipState}
-use Rattle.uart_chip.specs.Conserved.{origin_stands, stands, waiting as received, out}
-use Rattle.uart_chip.specs.Receiver.{ReceiverState}
-use Rattle.uart_chip.specs.Transmitter.{shift_bytes, TransmitterState, held}
-use Rattle.uart_chip.specs.declared.receiver.Character.{Character}
-use Rattle.uart_chip.specs.declared.receiver.Origin.{Origin}
-use Rattle.uart_run.specs.Progress.{IsUnheld}
-use Rattle.uart_ring.specs.Lossless.{data_written}
-use Rattle.uart_ring_runs.specs.RingBytes.{to_take, to_send, queued_by}
-use Rattle.uart_ring_runs.specs.RingRun.{RingState, ring_machine}
-use Rattle.uart_ring_runs.specs.declared.call.RingCall.{RingCall}
 use Rattle.uart_ring_runs.specs.declared.call.RingCall.TheVariants as call
-use Rattle.uart_link.specs.declared.call.Side.{Side}
-use Rattle.uart_link.specs.declared.call.Side.TheVariants.{Left, Right}
-use Rattle.uart_link.specs.declared.link.Link.{Link}
-use Rattle.uart_link.specs.Brought.{brought}
-use Rattle.uart_link.specs.Cable.{on_cable}
-use Rattle.uart_link.specs.Carried.{byte_of, left_in, of_end, receiver_at, to_be_taken, on_the_way, queued_at, gone_at, bytes_gone}
-use Rattle.uart_link.specs.Carried.{AllKeepOrderAt, IsJoined, OfEnd}
-use Rattle.uart_link.specs.Flow.{DropsNothing, CarriesAll, hold_of}
-use Rattle.uart_link.specs.Link.{at_end, other, Step, EndStep, LinkChain, LinkCallStep}
-use Rattle.uart_link.specs.Progress.{Progresses, PassTime, BringAll, HandlesAll, TakesAll, Begin, Comes, HasRounds, arrives_in, in_calls_at}
-use Rattle.uart_link.specs.Progress.{enough_ticks, chip_at, transmitter_at, NoneAdjusts, KeepsRtsOn, NoneArrives, EmptiesReceiver, SendsOn}
-use Rattle.uart_link.specs.Progress.{LeavesArmed, AllLeaveArmed}
-use Rattle.uart_link.specs.Told.{NoLineAt}
 use Rattle.uart_link.proofs.EndFlows.{sent_of, waits, EndKept, KeepsMcr, end_moves, adjusts_on, rts_on}
-use Rattle.uart_link.proofs.EndPasses.{InEnd, EndPasses}
-use Rattle.uart_link.proofs.LinkSteps.{Brings, LinkPasses, link_chain, joined_after}
-use Rattle.uart_link.proofs.Resumes.{IsThrEmpty}
-use Rattle.uart_link.proofs.SendsOn.{resumed, handled_on, leaves_armed}
+use Rattle.uart_link.proofs.{EndPasses.InEnd, EndPasses.EndPasses, LinkSteps.Brings, LinkSteps.LinkPasses, LinkSteps.link_chain}
+use Rattle.uart_link.proofs.{LinkSteps.joined_after, Resumes.IsThrEmpty, SendsOn.resumed, SendsOn.handled_on, SendsOn.leaves_armed}
+use Rattle.uart_link.proofs.{Taking.handled_all, Taking.taken_all}
 use Rattle.uart_link.proofs.Stretches.{Going, going_after, in_end, does_at, time_passes, all_arrives, same_rooms}
-use Rattle.uart_link.proofs.Taking.{handled_all, taken_all}
 
 -- ---- numbers
 

@@ -1,27 +1,12 @@
 -- The schedule of a chip at a cable: what is known of it, and behind that what nobody knows yet.
-use Rattle.std.proofs.Common.{◌≡◌, ◌≢◌, ℕ, zero, suc, true, ◌+◌, ◌-◌, ◌<◌, ◌≤◌, List, [], ◌∷◌, ◌++◌, length, drop, replicate, refl, sym}
-use Rattle.std.proofs.Common.{◌∙◌, ap, subst}
-use Rattle.std.proofs.lemmas.Bool.{eqb-true}
-use Rattle.std.proofs.lemmas.Grind.{common_steps}
-use Rattle.std.proofs.Common.{slice_index_or, drop-cons, add-one, arith, zero-le}
-use Rattle.std.proofs.lemmas.List.{drop_all}
-use Rattle.uart_events.specs.declared.event.Event.{Event}
-use Rattle.uart_events.specs.declared.event.Event.TheVariants.{Ticks, Arrive, Lines as Change, Access as Gate, Mark}
-use Rattle.uart_events.specs.Build.{IsLegal}
-use Rattle.uart_spec.specs.Bits.{IsWithin}
+use Rattle.uart_link.proofs.Names.{◌≡◌, ◌≢◌, ℕ, zero, suc, true, ◌+◌, ◌-◌, ◌<◌, ◌≤◌, List, [], ◌∷◌, ◌++◌, length, drop, replicate, refl}
+use Rattle.uart_link.proofs.Names.{sym, ◌∙◌, ap, subst, eqb-true, common_steps, slice_index_or, drop-cons, add-one, arith, zero-le}
+use Rattle.uart_link.proofs.Names.{drop_all, Event, Ticks, Arrive, Lines as Change, Gate, Mark, IsLegal, IsWithin, ChipState, MachineState}
+use Rattle.uart_link.proofs.Names.{arrivals, perform, AllLegal, IsSound, each-append, whole_flowing, whole_perform, IsWiredChip}
+use Rattle.uart_link.proofs.Names.{wired-ticks, Moment, events_of, unknown, to_come, with_ahead, settled, may_happen, expecting, performed}
+use Rattle.uart_link.proofs.Names.{IsUnmarked, AllUnmarked, IsKnown}
 use Rattle.uart_spec.specs.declared.registers.modem_status.TheConstants.MSR
-use Rattle.uart_chip.specs.Chip.{ChipState}
-use Rattle.uart_chip.specs.Machine.{MachineState, arrivals, perform}
-use Rattle.uart_chip.specs.Sound.{AllLegal, IsSound}
-use Rattle.uart_chip.proofs.Lists.{each-append}
-use Rattle.uart_chip.proofs.soundness.Builds.{whole_flowing}
-use Rattle.uart_chip.proofs.soundness.Sounds.{whole_perform}
-use Rattle.uart_run.specs.Wired.{IsWiredChip}
-use Rattle.uart_run.proofs.Wired.{wired-ticks}
-use Rattle.uart_link.specs.declared.call.Moment.{Moment}
 use Rattle.uart_link.specs.declared.call.Moment.TheVariants as moment
-use Rattle.uart_link.specs.Cable.{events_of, unknown, to_come, with_ahead, settled, may_happen, expecting, performed}
-use Rattle.uart_link.specs.Known.{IsUnmarked, AllUnmarked, IsKnown}
 
 -- ---- arrivals
 

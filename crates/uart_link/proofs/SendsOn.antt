@@ -1,50 +1,26 @@
 -- An end with an empty transmitter goes on to send: at least one byte leaves its rings.
-use Rattle.std.proofs.Common.{◌≡◌, ◌⊎◌, inl, inr, ℕ, zero, suc, ◌≤◌, ◌+◌, ◌-◌, ◌<◌, ◌==◌, ◌&&◌, ◌||◌, not, Bool, true, false, List, []}
-use Rattle.std.proofs.Common.{◌++◌, length, Option, Some, length-append, if◌then◌else◌, refl, sym, ◌∙◌, ap, subst, arith}
-use Rattle.std.specs.Prelude.{is_some}
-use Rattle.std.proofs.lemmas.List.{length-map}
-use Rattle.uart_spec.specs.Bits.{has, has_any}
-use Rattle.uart_spec.specs.declared.access.Access.{Access}
+use Rattle.uart_link.proofs.Names.{◌≡◌, ◌⊎◌, inl, inr, ℕ, zero, suc, ◌≤◌, ◌+◌, ◌-◌, ◌<◌, ◌==◌, ◌&&◌, ◌||◌, not, Bool, true, false, List, []}
+use Rattle.uart_link.proofs.Names.{◌++◌, length, Option, Some, length-append, if◌then◌else◌, refl, sym, ◌∙◌, ap, subst, arith, is_some}
+use Rattle.uart_link.proofs.Names.{length-map, has, has_any, Access, InterruptType, settings_of, has_one, Modes, loopback-in, dlab-in}
+use Rattle.uart_link.proofs.Names.{lasts-before_mark, ChipState, is_loopback, is_dlab_set, interrupt, MachineState, at_access, at_mark}
+use Rattle.uart_link.proofs.Names.{arrivals, data_written, RingFields, ring_fields, sendable, MakesBlocks, in_blocks, modes_at, is_line_up}
+use Rattle.uart_link.proofs.Names.{to_send, queued_by, KeepsOrder, RingState, RingCallStep, ring_machine, IsOfRings, RingAnswer, RingCall}
+use Rattle.uart_link.proofs.Names.{Moment, to_come, settled, lines_from, SeesLines, EndStep, CabledCallStep, ServedAll}
 use Rattle.uart_spec.specs.declared.registers.interrupt_enable.TheConstants.IER
-use Rattle.uart_spec.specs.declared.registers.interrupt_type.InterruptType.{InterruptType}
 use Rattle.uart_spec.specs.declared.registers.interrupt_type.InterruptType.TheVariants as interrupts
 use Rattle.uart_spec.specs.declared.registers.modem_control.TheConstants.MCR
 use Rattle.uart_spec.specs.declared.registers.modem_status.TheConstants.MSR
-use Rattle.uart_16550.specs.Driver.{settings_of}
-use Rattle.uart_chip.proofs.Bits.{has_one}
-use Rattle.uart_chip.proofs.conservation.Went.{Modes, loopback-in, dlab-in}
-use Rattle.uart_chip.proofs.lasting.Lasting.{lasts-before_mark}
-use Rattle.uart_chip.specs.Chip.{ChipState, is_loopback, is_dlab_set, interrupt}
-use Rattle.uart_chip.specs.Machine.{MachineState, at_access, at_mark, arrivals}
 use Rattle.uart_ring.specs.Armed.{IsArmed}
-use Rattle.uart_ring.specs.Lossless.{data_written}
-use Rattle.uart_ring.specs.Ring.{RingFields, ring_fields, sendable, waiting}
+use Rattle.uart_ring.specs.Ring.{waiting}
 use Rattle.uart_ring_runs.proofs.RingArming.{call_leaves}
 use Rattle.uart_ring_runs.proofs.RingWalk as walk
-use Rattle.uart_ring_runs.proofs.RingBlocks.{MakesBlocks, in_blocks}
 use Rattle.uart_ring_runs.proofs.RingDue.{mark_holds}
-use Rattle.uart_ring_runs.proofs.RingRts.{modes_at}
-use Rattle.uart_ring_runs.specs.Edges.{is_line_up}
 use Rattle.uart_ring_runs.specs.RingArmed.{thr_empty_of, is_due, IsRingArmed, RearmsRing}
-use Rattle.uart_ring_runs.specs.RingBytes.{to_send, queued_by, KeepsOrder}
-use Rattle.uart_ring_runs.specs.RingRun.{RingState, RingCallStep, ring_machine, IsOfRings}
-use Rattle.uart_ring_runs.specs.declared.call.RingAnswer.{RingAnswer}
 use Rattle.uart_ring_runs.specs.declared.call.RingAnswer.TheVariants as answers
-use Rattle.uart_ring_runs.specs.declared.call.RingCall.{RingCall}
 use Rattle.uart_ring_runs.specs.declared.call.RingCall.TheVariants as call
-use Rattle.uart_link.specs.declared.call.Moment.{Moment}
-use Rattle.uart_link.specs.Cable.{to_come, settled, lines_from}
-use Rattle.uart_link.specs.Flow.{SeesLines}
-use Rattle.uart_link.specs.Link.{EndStep, CabledCallStep}
-use Rattle.uart_link.specs.Progress.{ServedAll}
-use Rattle.uart_link.proofs.Arranges.{arranged_events}
-use Rattle.uart_link.proofs.Calm.{AllLeaveMcr, AllLeaveCts, HasCts, cts_path, blocks_leave}
-use Rattle.uart_link.proofs.EndActs.{end_begins}
-use Rattle.uart_link.proofs.EndFlows.{cts_arranged, cts_at_first}
-use Rattle.uart_link.proofs.EndPasses.{InEnd, call_passes}
-use Rattle.uart_link.proofs.Held.{AllShowCts}
-use Rattle.uart_link.proofs.Resumes.{IsThrEmpty, thr_empty_lasts, resumes_some}
-use Rattle.uart_link.proofs.Taking.{served_down}
+use Rattle.uart_link.proofs.{Arranges.arranged_events, Calm.AllLeaveMcr, Calm.AllLeaveCts, Calm.HasCts, Calm.cts_path, Calm.blocks_leave}
+use Rattle.uart_link.proofs.{EndActs.end_begins, EndFlows.cts_arranged, EndFlows.cts_at_first, EndPasses.InEnd, EndPasses.call_passes}
+use Rattle.uart_link.proofs.{Held.AllShowCts, Resumes.IsThrEmpty, Resumes.thr_empty_lasts, Resumes.resumes_some, Taking.served_down}
 
 -- ---- by a `resume_transmit`
 

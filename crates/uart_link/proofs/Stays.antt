@@ -1,19 +1,8 @@
 -- What stays as it is at both ends, whatever is called.
-use Rattle.std.proofs.Common.{◌≡◌, List, sym, ◌∙◌, refl}
-use Rattle.uart_16550.specs.Driver.{settings_of}
-use Rattle.uart_chip.proofs.conservation.Went.{Modes}
-use Rattle.uart_chip.specs.Chip.{ChipState}
-use Rattle.uart_run.proofs.Latches.{cuts_path, cuts_mark}
-use Rattle.uart_ring.specs.Ring.{ring_fields}
-use Rattle.uart_ring_runs.specs.RingRun.{ring_machine}
-use Rattle.uart_link.specs.declared.call.Side.{Side}
-use Rattle.uart_link.specs.declared.call.Side.TheVariants.{Left, Right}
-use Rattle.uart_link.specs.declared.link.Link.{Link}
-use Rattle.uart_link.specs.Link.{at_end, Step, LinkChain}
-use Rattle.uart_link.specs.Stays.{StaysAt}
-use Rattle.uart_link.proofs.Lasting.{lasts_chain}
-use Rattle.uart_link.proofs.LinkSteps.{link_chain}
-use Rattle.uart_link.proofs.Stretches.{Going, going_after, in_end, same_rooms}
+use Rattle.uart_link.proofs.Names.{◌≡◌, List, sym, ◌∙◌, refl, settings_of, Modes, ChipState, cuts_path, cuts_mark, ring_fields}
+use Rattle.uart_link.proofs.Names.{ring_machine, Side, Left, Right, Link, at_end, Step, LinkChain, StaysAt}
+use Rattle.uart_link.proofs.{Lasting.lasts_chain, LinkSteps.link_chain, Stretches.Going, Stretches.going_after, Stretches.in_end}
+use Rattle.uart_link.proofs.{Stretches.same_rooms}
 
 pub stays : (x y : Modes) (end : Side) (steps : List Step) (a b : Link) → Going x y a → LinkChain a steps b →
     StaysAt (at_end end a) (at_end end b)

@@ -1,37 +1,17 @@
 -- What passes at an end in calls of a link: time, and arrivals.
-use Rattle.std.proofs.Common.{◌≡◌, ℕ, zero, suc, ◌+◌, ◌-◌, ◌≤◌, Bool, List, [], ◌∷◌, ◌++◌, length, length-append, take, Option, Some, None}
-use Rattle.std.proofs.Common.{false, refl, sym, ◌∙◌, ap, subst, arith}
-use Rattle.std.proofs.lemmas.List.{length-drop, length-take}
-use Rattle.uart_events.specs.declared.event.Event.{Event}
-use Rattle.uart_spec.specs.declared.setup.FifoSize.{FifoSize}
-use Rattle.uart_chip.proofs.conservation.Went.{Modes, loopback-in}
-use Rattle.uart_chip.specs.Chip.{ChipState}
-use Rattle.uart_chip.specs.Machine.{MachineState, arrivals}
-use Rattle.uart_chip.specs.Sound.{IsSoundTransmitter, IsTicking}
-use Rattle.uart_chip.specs.Transmitter.{TransmitterState, held, shift_bytes}
-use Rattle.uart_chip.specs.declared.transmitter.Shifting.{Shifting}
+use Rattle.uart_link.proofs.Names.{◌≡◌, ℕ, zero, suc, ◌+◌, ◌-◌, ◌≤◌, Bool, List, [], ◌∷◌, ◌++◌, length, length-append, take, Option, Some}
+use Rattle.uart_link.proofs.Names.{None, false, refl, sym, ◌∙◌, ap, subst, arith, length-drop, length-take, Event, Modes, loopback-in}
+use Rattle.uart_link.proofs.Names.{ChipState, MachineState, arrivals, IsSoundTransmitter, IsTicking, TransmitterState, held, shift_bytes}
+use Rattle.uart_link.proofs.Names.{Shifting, left, left_of, RingState, ring_machine, RingCall, Moment, Side, Left, Right, Link, to_come}
+use Rattle.uart_link.proofs.Names.{settled, arranged, on_cable, lines_from, IsJoined, AllKeepOrderAt, queued_at, bytes_gone, at_end, other}
+use Rattle.uart_link.proofs.Names.{Step, EndStep, LinkChain, LinkCallStep, ticks_in, arrives_in, of_side, in_calls_at, enough_ticks}
+use Rattle.uart_link.proofs.Names.{EndInNext, NoLineAt}
 use Rattle.uart_run.proofs.progress.Left.{left-most}
-use Rattle.uart_run.specs.Progress.{left, left_of}
-use Rattle.uart_ring_runs.specs.RingRun.{RingState, ring_machine}
-use Rattle.uart_ring_runs.specs.declared.call.RingCall.{RingCall}
 use Rattle.uart_ring_runs.specs.declared.call.RingCall.TheVariants as call
-use Rattle.uart_link.specs.declared.call.Moment.{Moment}
-use Rattle.uart_link.specs.declared.call.Side.{Side}
-use Rattle.uart_link.specs.declared.call.Side.TheVariants.{Left, Right}
-use Rattle.uart_link.specs.declared.link.Link.{Link}
-use Rattle.uart_link.specs.Cable.{to_come, settled, arranged, on_cable, lines_from}
-use Rattle.uart_link.specs.Carried.{IsJoined, AllKeepOrderAt, queued_at, bytes_gone}
-use Rattle.uart_link.specs.Link.{at_end, other, Step, EndStep, LinkChain, LinkCallStep}
-use Rattle.uart_link.specs.Progress.{ticks_in, arrives_in, of_side, in_calls_at, enough_ticks, EndInNext}
-use Rattle.uart_link.specs.Told.{NoLineAt}
-use Rattle.uart_link.proofs.Arranges.{arranged_events}
-use Rattle.uart_link.proofs.Budgets.{ahead_of, Spends, DueAt, spend_call}
-use Rattle.uart_link.proofs.EndFlows.{sent_of}
-use Rattle.uart_link.proofs.EndPasses.{InEnd}
-use Rattle.uart_link.proofs.Lefts.{Grown}
-use Rattle.uart_link.proofs.LinkSteps.{LinkPasses, link_chain, joined_after}
+use Rattle.uart_link.proofs.{Arranges.arranged_events, Budgets.ahead_of, Budgets.Spends, Budgets.DueAt, Budgets.spend_call}
+use Rattle.uart_link.proofs.{EndFlows.sent_of, EndPasses.InEnd, Lefts.Grown, LinkSteps.LinkPasses, LinkSteps.link_chain}
+use Rattle.uart_link.proofs.{LinkSteps.joined_after, Passing.arrivals_spend, Passing.HasRooms, Passing.rooms_spend}
 use Rattle.uart_link.proofs.Passing.{ticks_of, arrives_of, ticks_ahead, arrives_ahead, need, need_of, DueTicks, ticks_spend, DueArrivals}
-use Rattle.uart_link.proofs.Passing.{arrivals_spend, HasRooms, rooms_spend}
 
 -- ---- both ends in a session
 

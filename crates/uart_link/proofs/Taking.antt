@@ -1,35 +1,17 @@
 -- What an end does to take all that has come: its handler runs until no interrupt is pending, and its program takes.
-use Rattle.std.proofs.Common.{◌≡◌, ◌⊎◌, inl, inr, ℕ, zero, suc, ◌<◌, ◌&&◌, Bool, true, false, nat_lt, List, [], ◌∷◌, Option, Some, None}
-use Rattle.std.proofs.Common.{MatchBool, length, take, if◌then◌else◌, refl, sym, ◌∙◌, ap, arith, ◌==◌}
-use Rattle.std.specs.Prelude.{is_some}
-use Rattle.std.proofs.lemmas.Grind.{common_steps}
-use Rattle.std.proofs.lemmas.Bool.Decides.{nat_tests}
-use Rattle.std.proofs.lemmas.List.{length-take, drop_all}
-use Rattle.uart_spec.specs.Bits.{has_any}
-use Rattle.uart_spec.specs.declared.access.Access.{Access}
+use Rattle.uart_link.proofs.Names.{◌≡◌, ◌⊎◌, inl, inr, ℕ, zero, suc, ◌<◌, ◌&&◌, Bool, true, false, nat_lt, List, [], ◌∷◌, Option, Some}
+use Rattle.uart_link.proofs.Names.{None, MatchBool, length, take, if◌then◌else◌, refl, sym, ◌∙◌, ap, arith, ◌==◌, is_some, common_steps}
+use Rattle.uart_link.proofs.Names.{nat_tests, length-take, drop_all, has_any, Access, InterruptType, Enables, ChipState, interrupt}
+use Rattle.uart_link.proofs.Names.{ReceiverState, characters_of, is_timed_out, is_data_pending, Character, EndsPause, RingFields}
+use Rattle.uart_link.proofs.Names.{ring_fields, IfAny, OnDriver, Stays, with_paused, without_taken, Handled, is_line_up, to_take, taken_by}
+use Rattle.uart_link.proofs.Names.{RingState, ring_machine, taken_answer, RingAnswer, RingCall, Moment, receiver_at, EndStep, ServedAll}
+use Rattle.uart_link.proofs.Names.{IsEachTold}
 use Rattle.uart_spec.specs.declared.registers.interrupt_enable.TheConstants.IER
-use Rattle.uart_spec.specs.declared.registers.interrupt_type.InterruptType.{InterruptType}
 use Rattle.uart_spec.specs.declared.registers.interrupt_type.InterruptType.TheVariants.{ReceiverLineStatus, ReceivedDataReady}
 use Rattle.uart_spec.specs.declared.registers.interrupt_type.InterruptType.TheVariants.{ReceptionTimeout}
-use Rattle.uart_16550.specs.Status.{Enables}
-use Rattle.uart_chip.specs.Chip.{ChipState, interrupt}
-use Rattle.uart_chip.specs.Receiver.{ReceiverState, characters_of, is_timed_out, is_data_pending}
-use Rattle.uart_chip.specs.declared.receiver.Character.{Character}
-use Rattle.uart_ring.specs.Receive.{EndsPause}
-use Rattle.uart_ring.specs.Ring.{RingFields, ring_fields, IfAny, OnDriver, Stays, with_paused, without_taken}
-use Rattle.uart_ring.specs.declared.ring.service.Handled.{Handled}
 use Rattle.uart_ring_runs.proofs.RingEdges.{handled_down, serviced_down}
-use Rattle.uart_ring_runs.specs.Edges.{is_line_up}
-use Rattle.uart_ring_runs.specs.RingBytes.{to_take, taken_by}
-use Rattle.uart_ring_runs.specs.RingRun.{RingState, ring_machine, taken_answer}
-use Rattle.uart_ring_runs.specs.declared.call.RingAnswer.{RingAnswer}
 use Rattle.uart_ring_runs.specs.declared.call.RingAnswer.TheVariants as answers
-use Rattle.uart_ring_runs.specs.declared.call.RingCall.{RingCall}
 use Rattle.uart_ring_runs.specs.declared.call.RingCall.TheVariants as call
-use Rattle.uart_link.specs.declared.call.Moment.{Moment}
-use Rattle.uart_link.specs.Carried.{receiver_at}
-use Rattle.uart_link.specs.Link.{EndStep}
-use Rattle.uart_link.specs.Progress.{ServedAll, IsEachTold}
 
 -- ---- the handler
 

@@ -1,14 +1,8 @@
 -- An end that never clears its receive ring has taken all that left it.
-use Rattle.std.proofs.Common.{◌≡◌, ◌≢◌, ℕ, List, [], ◌∷◌, ◌++◌, map, refl, sym, ◌∙◌, ap}
-use Rattle.std.proofs.lemmas.List.{map-append}
-use Rattle.uart_ring_runs.specs.declared.call.RingAnswer.{RingAnswer}
-use Rattle.uart_ring_runs.specs.declared.call.RingCall.{RingCall}
+use Rattle.uart_link.proofs.Names.{◌≡◌, ◌≢◌, ℕ, List, [], ◌∷◌, ◌++◌, map, refl, sym, ◌∙◌, ap, map-append, RingAnswer, RingCall, to_take}
+use Rattle.uart_link.proofs.Names.{taken_by, Side, Left, Right, Gone, Taken, Cleared, byte_of, taken_among, left_in, of_end, OfEnd, gone_at}
+use Rattle.uart_link.proofs.Names.{TakesAllGone, at_end, Step}
 use Rattle.uart_ring_runs.specs.declared.call.RingCall.TheVariants as call
-use Rattle.uart_ring_runs.specs.RingBytes.{to_take, taken_by}
-use Rattle.uart_link.specs.declared.call.Side.{Side}
-use Rattle.uart_link.specs.declared.call.Side.TheVariants.{Left, Right}
-use Rattle.uart_link.specs.Carried.{Gone, Taken, Cleared, byte_of, taken_among, left_in, of_end, OfEnd, gone_at, TakesAllGone}
-use Rattle.uart_link.specs.Link.{at_end, Step}
 
 -- all of these were taken
 abbrev AllTaken : List Gone → Type 0

@@ -1,24 +1,10 @@
 -- If no character is dropped, all that was queued is taken or is still there.
-use Rattle.std.proofs.Common.{◌≡◌, ℕ, ◌+◌, ◌≤◌, Bool, true, false, List, [], ◌∷◌, ◌++◌, map, append_assoc, refl, sym, ◌∙◌, ap, arith}
-use Rattle.std.specs.List.{filter}
-use Rattle.std.proofs.lemmas.List.{map-append}
-use Rattle.std.proofs.lemmas.List.Elements.{filter-append}
-use Rattle.uart_events.specs.declared.event.ArrivalMark.TheVariants.{Pending}
-use Rattle.uart_chip.specs.declared.receiver.Character.{Character}
-use Rattle.uart_chip.specs.declared.receiver.Origin.{Origin}
-use Rattle.uart_chip.specs.declared.receiver.Origin.TheVariants.{Arrived}
-use Rattle.uart_chip.specs.Receiver.{ReceiverState, mark_at}
-use Rattle.uart_chip.specs.Conserved.{origin_stands, stands, waiting}
-use Rattle.uart_chip.specs.Sound.{AllInQueue, IsSound}
+use Rattle.uart_link.proofs.Names.{◌≡◌, ℕ, ◌+◌, ◌≤◌, Bool, true, false, List, [], ◌∷◌, ◌++◌, map, append_assoc, refl, sym, ◌∙◌, ap, arith}
+use Rattle.uart_link.proofs.Names.{filter, map-append, filter-append, Pending, Character, Origin, Arrived, ReceiverState, mark_at}
+use Rattle.uart_link.proofs.Names.{origin_stands, stands, waiting, AllInQueue, IsSound, ring_machine, to_take, Side, Link, numbered}
+use Rattle.uart_link.proofs.Names.{on_the_way, receiver_at, not_dropped, queued_at, Carries, DropsNothing, CarriesAll, Delivers, at_end}
+use Rattle.uart_link.proofs.Names.{other, Step}
 use Rattle.uart_chip.proofs.conservation.Moves.{waits_stands}
-use Rattle.uart_ring_runs.specs.RingRun.{ring_machine}
-use Rattle.uart_ring_runs.specs.RingBytes.{to_take}
-use Rattle.uart_link.specs.declared.call.Side.{Side}
-use Rattle.uart_link.specs.declared.link.Link.{Link}
-use Rattle.uart_link.specs.Brought.{numbered}
-use Rattle.uart_link.specs.Carried.{on_the_way, receiver_at, not_dropped, queued_at, Carries}
-use Rattle.uart_link.specs.Flow.{DropsNothing, CarriesAll, Delivers}
-use Rattle.uart_link.specs.Link.{at_end, other, Step}
 
 -- whatever was not dropped at first is not dropped later
 abbrev AllStand : (r s : ReceiverState) → Type 0

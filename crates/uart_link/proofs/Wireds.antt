@@ -1,11 +1,6 @@
 -- An access leaves a chip wired.
-use Rattle.std.proofs.Common.{ℕ, [], ◌∷◌, refl}
-use Rattle.uart_events.specs.declared.event.Event.TheVariants.{Access as Gate}
-use Rattle.uart_spec.specs.declared.access.Access.TheVariants.{Read, Write}
-use Rattle.uart_chip.specs.Chip.{ChipState, after_read, after_write, answer}
-use Rattle.uart_chip.specs.Machine.{MachineState}
-use Rattle.uart_run.specs.Wired.{IsWiredChip}
-use Rattle.uart_run.proofs.Wired.{wired_step}
+use Rattle.uart_link.proofs.Names.{ℕ, [], ◌∷◌, refl, Gate, Read, Write, ChipState, after_read, after_write, answer, MachineState}
+use Rattle.uart_link.proofs.Names.{IsWiredChip, wired_step}
 
 -- a machine whose next access takes place at once
 abbrev at_once : ChipState → MachineState

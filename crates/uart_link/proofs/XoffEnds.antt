@@ -1,25 +1,10 @@
 -- What XOFF is at each end by itself: what is told goes out next, and a ring that is held stays where it is.
-use Rattle.std.proofs.Common.{◌≡◌, ℕ, List, [], ◌∷◌, ◌++◌, append_assoc, map, Some, refl, sym, ◌∙◌, ap, subst}
-use Rattle.std.proofs.lemmas.List.{map-id}
-use Rattle.uart_chip.specs.Conserved.{out}
-use Rattle.uart_chip.proofs.conservation.Went.{Modes}
-use Rattle.uart_ring_runs.specs.declared.call.RingAnswer.{RingAnswer}
+use Rattle.uart_link.proofs.Names.{◌≡◌, ℕ, List, [], ◌∷◌, ◌++◌, append_assoc, map, Some, refl, sym, ◌∙◌, ap, subst, map-id, out, Modes}
+use Rattle.uart_link.proofs.Names.{RingAnswer, RingCall, to_send, to_send_with, RingState, ring_machine, Moment, Side, Left, Right, Link}
+use Rattle.uart_link.proofs.Names.{OfEnd, at_end, EndStep, LinkChain, other, Step, all_sent, AllTellAndHold, HoldsBack, TellsNext}
 use Rattle.uart_ring_runs.specs.declared.call.RingAnswer.TheVariants as answers
-use Rattle.uart_ring_runs.specs.declared.call.RingCall.{RingCall}
 use Rattle.uart_ring_runs.specs.declared.call.RingCall.TheVariants as call
-use Rattle.uart_ring_runs.specs.RingBytes.{to_send, to_send_with}
-use Rattle.uart_ring_runs.specs.RingRun.{RingState, ring_machine}
-use Rattle.uart_link.specs.declared.call.Moment.{Moment}
-use Rattle.uart_link.specs.declared.call.Side.{Side}
-use Rattle.uart_link.specs.declared.call.Side.TheVariants.{Left, Right}
-use Rattle.uart_link.specs.declared.link.Link.{Link}
-use Rattle.uart_link.specs.Carried.{OfEnd}
-use Rattle.uart_link.specs.Link.{at_end, EndStep, LinkChain, other, Step}
-use Rattle.uart_link.specs.Carried.{all_sent}
-use Rattle.uart_link.specs.Xoff.{AllTellAndHold, HoldsBack, TellsNext}
-use Rattle.uart_link.proofs.EndPasses.{InEnd}
-use Rattle.uart_link.proofs.Stretches.{Going, going_after}
-use Rattle.uart_link.proofs.XoffFlows.{Sent, sent_end, urges}
+use Rattle.uart_link.proofs.{EndPasses.InEnd, Stretches.Going, Stretches.going_after, XoffFlows.Sent, XoffFlows.sent_end, XoffFlows.urges}
 
 -- all that has left or is to leave, once a call was made
 all_after : (x : Modes) (change : List ℕ → List ℕ) (s t : RingState) → x.cut ≡ (λ (byte : ℕ). byte) → Sent x change s t →

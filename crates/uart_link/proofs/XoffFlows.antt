@@ -1,48 +1,20 @@
 -- Flow control by XOFF loses nothing in its direction: over numbers, and then over calls of a link.
-use Rattle.std.proofs.Common.{◌≡◌, ◌⊎◌, inl, inr, ◌≤◌, ◌+◌, ◌-◌, ℕ, Bool, true, false, not, ◌&&◌, List, [], ◌∷◌, ◌++◌, length, map}
-use Rattle.std.proofs.Common.{length-append, append-nil, refl, sym, ◌∙◌, ap, subst, arith, None}
-use Rattle.std.specs.List.{AllByRecursion}
-use Rattle.std.specs.Prelude.{option_to_list}
-use Rattle.std.proofs.lemmas.List.{length-drop, length-map, nil_from_length}
-use Rattle.uart_spec.specs.FifoSize.{characters}
-use Rattle.uart_chip.specs.Machine.{MachineState, at_mark}
-use Rattle.uart_chip.specs.Conserved.{out}
-use Rattle.uart_chip.specs.Sound.{IsSound}
-use Rattle.uart_chip.proofs.Sizes.{at_least_16, room_within}
-use Rattle.uart_chip.proofs.conservation.Receives.{Drop, drop_split}
-use Rattle.uart_chip.proofs.conservation.SessionLaws.{drop_receivers}
-use Rattle.uart_chip.proofs.conservation.Went.{Modes}
-use Rattle.uart_run.specs.Progress.{most_held}
-use Rattle.uart_ring.specs.Ring.{RingFields, ring_fields}
+use Rattle.uart_link.proofs.Names.{◌≡◌, ◌⊎◌, inl, inr, ◌≤◌, ◌+◌, ◌-◌, ℕ, Bool, true, false, not, ◌&&◌, List, [], ◌∷◌, ◌++◌, length, map}
+use Rattle.uart_link.proofs.Names.{length-append, append-nil, refl, sym, ◌∙◌, ap, subst, arith, None, AllByRecursion, option_to_list}
+use Rattle.uart_link.proofs.Names.{length-drop, length-map, nil_from_length, characters, MachineState, at_mark, out, IsSound, at_least_16}
+use Rattle.uart_link.proofs.Names.{room_within, Drop, drop_split, drop_receivers, Modes, most_held, RingFields, ring_fields, data_written}
+use Rattle.uart_link.proofs.Names.{ReceiveMarks, wired_call, ring_passes_call, RingCall, RingAnswer, RingState, ring_machine, RingCallStep}
+use Rattle.uart_link.proofs.Names.{IsOfRings, to_send, to_send_with, Moment, Side, Left, Right, Link, on_cable, receiver_at, IsJoined}
+use Rattle.uart_link.proofs.Names.{OfEnd, beyond, receive_room, arrived_in, since_call, since_at, DropsNothing, at_end, other}
+use Rattle.uart_link.proofs.Names.{CabledCallStep, EndStep, Step, LinkChain, of_side, XoffPace, has_told, is_holding, urgent_at}
+use Rattle.uart_link.proofs.Names.{xoff_hold_of, AdjustsXoffIfAny, IsXoffStep, AllXoffInTime, SinceXoff, from_now_on, urged_by, counted_on}
+use Rattle.uart_link.proofs.Names.{since_xoff, ObeysInTime, AllObeyed, BeginsByXoff, IsPacedByXoff, HoldsInTime, MayTell}
 use Rattle.uart_ring.specs.Ring as ring
-use Rattle.uart_ring.specs.Lossless.{data_written}
-use Rattle.uart_ring.specs.declared.ring.receive.ReceiveMarks.{ReceiveMarks}
-use Rattle.uart_ring_runs.proofs.RingLasts.{wired_call}
-use Rattle.uart_ring_runs.proofs.RingPasses.{ring_passes_call}
-use Rattle.uart_ring_runs.specs.declared.call.RingCall.{RingCall}
 use Rattle.uart_ring_runs.specs.declared.call.RingCall.TheVariants as call
-use Rattle.uart_ring_runs.specs.declared.call.RingAnswer.{RingAnswer}
-use Rattle.uart_ring_runs.specs.RingRun.{RingState, ring_machine, RingCallStep, IsOfRings}
-use Rattle.uart_ring_runs.specs.RingBytes.{to_send, to_send_with}
-use Rattle.uart_link.specs.declared.call.Moment.{Moment}
-use Rattle.uart_link.specs.declared.call.Side.{Side}
-use Rattle.uart_link.specs.declared.call.Side.TheVariants.{Left, Right}
-use Rattle.uart_link.specs.declared.link.Link.{Link}
-use Rattle.uart_link.specs.Cable.{on_cable}
-use Rattle.uart_link.specs.Carried.{receiver_at, IsJoined, OfEnd}
-use Rattle.uart_link.specs.Flow.{beyond, receive_room, arrived_in, since_call, since_at, DropsNothing}
-use Rattle.uart_link.specs.Link.{at_end, other, CabledCallStep, EndStep, Step, LinkChain}
-use Rattle.uart_link.specs.Progress.{of_side}
-use Rattle.uart_link.specs.Xoff.{XoffPace, has_told, is_holding, urgent_at, xoff_hold_of, AdjustsXoffIfAny, IsXoffStep}
-use Rattle.uart_link.specs.Xoff.{AllXoffInTime, SinceXoff, from_now_on, urged_by, counted_on, since_xoff, ObeysInTime, AllObeyed}
-use Rattle.uart_link.specs.Xoff.{BeginsByXoff, IsPacedByXoff, HoldsInTime, MayTell}
-use Rattle.uart_link.proofs.EndActs.{end_begins}
-use Rattle.uart_link.proofs.EndFlows.{waits, sent_of, EndFlows, end_moves}
-use Rattle.uart_link.proofs.EndPasses.{InEnd, settle_passes}
+use Rattle.uart_link.proofs.{EndActs.end_begins, EndFlows.waits, EndFlows.sent_of, EndFlows.EndFlows, EndFlows.end_moves, EndPasses.InEnd}
+use Rattle.uart_link.proofs.{EndPasses.settle_passes, Holds.CallKeeps, Holds.call_keeps, Holds.Adjusts, Holds.adjusts, LinkSteps.link_chain}
+use Rattle.uart_link.proofs.{LinkSteps.joined_after, Stretches.same_rooms}
 use Rattle.uart_link.proofs.Flows.{line_of, sent_is, less_room, held_few, none_waits, no_drop_still, behind_at, some_beyond}
-use Rattle.uart_link.proofs.Holds.{CallKeeps, call_keeps, Adjusts, adjusts}
-use Rattle.uart_link.proofs.LinkSteps.{link_chain, joined_after}
-use Rattle.uart_link.proofs.Stretches.{same_rooms}
 
 -- ---- what an end sends
 

@@ -1,35 +1,19 @@
 -- `check_configured` leaves the THR-empty interrupt: it looks at ISR while no interrupt is enabled, so that none is acknowledged, and then
 -- enables those that IER has shown.
-use Rattle.std.proofs.Common.{◌≡◌, ℕ, ◌==◌, true, false, inl, inr, List, [], ◌∷◌, ◌++◌, refl, sym, ◌∙◌, ap, Ok, Err}
+use Rattle.uart_ring_runs.proofs.Names.{◌≡◌, ℕ, ◌==◌, true, false, inl, inr, List, [], ◌∷◌, ◌++◌, refl, sym, ◌∙◌, ap, Ok, Err, false≢true}
+use Rattle.uart_ring_runs.proofs.Names.{Path, has, has_any, Access, Read, Write, Config, unlooped, Language, Settings, frame_bits}
+use Rattle.uart_ring_runs.proofs.Names.{ChipState, interrupt, is_dlab_set, is_thr_empty, ier_bits, MachineState, MachineStep, at_access}
+use Rattle.uart_ring_runs.proofs.Names.{path_as, lasts-before, Kept, kept_access, kept_path, then_parts, ThrEmpty, thr_empty_of}
 use Rattle.std.specs.Int.Bits.{and_zero_l}
-use Rattle.std.proofs.lemmas.Bool.{false≢true}
-use Rattle.uart_spec.specs.Access.{Path}
-use Rattle.uart_spec.specs.Bits.{has, has_any}
-use Rattle.uart_spec.specs.declared.access.Access.{Access}
-use Rattle.uart_spec.specs.declared.access.Access.TheVariants.{Read, Write}
-use Rattle.uart_spec.specs.declared.config.Config.{Config}
 use Rattle.uart_spec.specs.declared.errors.ConfigurationError.{ConfigurationError}
 use Rattle.uart_spec.specs.declared.registers.interrupt_enable.TheConstants.IER
 use Rattle.uart_spec.specs.declared.registers.line_control.TheConstants.LCR
 use Rattle.uart_spec.specs.declared.registers.offsets.TheConstants as offsets
 use Rattle.uart_16550.specs.Configured.{Verdict, Shows, InTurn, ShowsFrame, ShowsOutputs, ShowsInterrupts, ShowsDivisor, ShowsFifos}
 use Rattle.uart_16550.specs.Configured.{ShowsAll, ChecksConfigured, fifo_look}
-use Rattle.uart_16550.specs.Frame.{unlooped}
-use Rattle.uart_16550.specs.Grammar.{Language, Settings}
-use Rattle.uart_16550.specs.Init.{frame_bits}
-use Rattle.uart_chip.specs.Chip.{ChipState, interrupt, is_dlab_set, is_thr_empty}
-use Rattle.uart_chip.specs.Masks.{ier_bits}
-use Rattle.uart_chip.specs.Machine.{MachineState, MachineStep, at_access}
-use Rattle.uart_chip.proofs.conservation.BlockLaws.{path_as}
-use Rattle.uart_chip.proofs.lasting.Lasting.{lasts-before}
 use Rattle.uart_run.proofs.CheckLists.{LatchList, latch_list, latched, opened}
-use Rattle.uart_run.proofs.Latches.{Kept, kept_access, kept_path}
-use Rattle.uart_run.proofs.Pieces.{then_parts}
-use Rattle.uart_ring.specs.Armed.{ThrEmpty}
-use Rattle.uart_ring_runs.specs.RingArmed.{thr_empty_of}
 use Rattle.uart_ring_runs.proofs.RingDue.{IsDue, IsDlabOff, due-read, due-tick, due_says, says_due, ier_answer, off_access}
-use Rattle.uart_ring_runs.proofs.RingDue.{off_step, path_holds}
-use Rattle.uart_ring_runs.proofs.ThrSpared.{IsThrArmed, AllSpare, spared_list}
+use Rattle.uart_ring_runs.proofs.{RingDue.off_step, RingDue.path_holds, ThrSpared.IsThrArmed, ThrSpared.AllSpare, ThrSpared.spared_list}
 
 -- the interrupt is enabled and due, and DLAB is off; a list of the language leaves it so
 record IsAt (m : MachineState) : Type 0 where

@@ -1,57 +1,29 @@
 -- The driver's calls that leave the THR-empty interrupt: what they read is not ISR, and what they write is neither IER nor FCR; or they
 -- write IER with the interrupt in it, or FCR without a reset.
-use Rattle.std.proofs.Common.{◌≡◌, ℕ, ◌||◌, ◌%◌, ◌/◌, true, false, List, [], ◌∷◌, ◌++◌, refl, sym, ◌∙◌}
-use Rattle.std.proofs.Common.{ap, Result, Ok, Err, bit_or, arith}
-use Rattle.std.proofs.lemmas.Grind.{common_steps}
-use Rattle.bitflags.specs.Sets.{without}
-use Rattle.uart_spec.specs.Access.{Path}
-use Rattle.uart_spec.specs.Bits.{has, has_any}
-use Rattle.uart_spec.specs.declared.access.Access.{Access}
-use Rattle.uart_spec.specs.declared.access.Access.TheVariants.{Read, Write}
-use Rattle.uart_spec.specs.declared.config.Config.{Config}
-use Rattle.uart_spec.specs.declared.errors.FifosOffError.{FifosOffError}
+use Rattle.uart_ring_runs.proofs.Names.{◌≡◌, ℕ, ◌||◌, ◌%◌, ◌/◌, true, false, List, [], ◌∷◌, ◌++◌, refl, sym, ◌∙◌, ap, Result, Ok, Err}
+use Rattle.uart_ring_runs.proofs.Names.{bit_or, arith, common_steps, without, Path, has, has_any, Access, Read, Write, Config}
+use Rattle.uart_ring_runs.proofs.Names.{FifosOffError, FifoTriggerLevel, Call, Answer, Chip, Uart16550A, Uart16450, Settings, Only, Fields}
+use Rattle.uart_ring_runs.proofs.Names.{Sets, Saving, Next, fields, settings_of, frame_writes, with_frame, SetsFrame, frame_bits}
+use Rattle.uart_ring_runs.proofs.Names.{SetsFrameWhenIdle, SetsTrigger, level_bits, Enables, Disables, retrigger_accesses, WaitsFor}
+use Rattle.uart_ring_runs.proofs.Names.{inner_of, ChipState, control, is_dlab_set, MachineState, MachineStep, at_access, has_one, has_or}
+use Rattle.uart_ring_runs.proofs.Names.{path_as, chip_lasts-before_mark, Ready, State, machine_of, CallStep, level_bits_keep, framed_by}
+use Rattle.uart_ring_runs.proofs.Names.{Kept, kept_in, keep, kept_access, kept_step, next_stages, LeavesThrEmpty, ThrEmpty, KeepsIer}
+use Rattle.uart_ring_runs.proofs.Names.{known_after_all}
 use Rattle.uart_spec.specs.declared.errors.FrameError.{FrameError}
 use Rattle.uart_spec.specs.declared.errors.FrameError.TheVariants.{InvalidBaudRate, Stalled}
 use Rattle.uart_spec.specs.declared.errors.InvalidDivisorError.{InvalidDivisorError}
-use Rattle.uart_spec.specs.declared.registers.fifo_trigger_level.FifoTriggerLevel.{FifoTriggerLevel}
 use Rattle.uart_spec.specs.declared.registers.interrupt_enable.TheConstants.IER
 use Rattle.uart_spec.specs.declared.registers.line_control.TheConstants.LCR
 use Rattle.uart_spec.specs.declared.registers.line_status.TheConstants.LSR
 use Rattle.uart_spec.specs.declared.registers.offsets.TheConstants as offsets
-use Rattle.uart_events.specs.declared.call.Call.{Call}
 use Rattle.uart_events.specs.declared.call.Call.TheVariants as driver
-use Rattle.uart_events.specs.declared.call.Answer.{Answer}
-use Rattle.uart_events.specs.declared.event.Chip.{Chip}
-use Rattle.uart_events.specs.declared.event.Chip.TheVariants.{Uart16550A, Uart16450}
-use Rattle.uart_16550.specs.Grammar.{Settings, Only}
-use Rattle.uart_16550.specs.Driver.{Fields, Sets, Saving, Next, fields, settings_of}
-use Rattle.uart_16550.specs.Frame.{frame_writes, with_frame, SetsFrame}
-use Rattle.uart_16550.specs.Init.{frame_bits}
-use Rattle.uart_16550.specs.Setup.{SetsFrameWhenIdle, SetsTrigger, level_bits}
-use Rattle.uart_16550.specs.Status.{Enables, Disables, Retriggers, retrigger_accesses}
-use Rattle.uart_16550.specs.Transmit.{WaitsFor}
-use Rattle.uart_16550.specs.Tty.{inner_of}
-use Rattle.uart_chip.specs.Chip.{ChipState, control, is_dlab_set}
-use Rattle.uart_chip.specs.Machine.{MachineState, MachineStep, at_access}
-use Rattle.uart_chip.proofs.Bits.{has_one, has_or}
-use Rattle.uart_chip.proofs.conservation.BlockLaws.{path_as}
+use Rattle.uart_16550.specs.Status.{Retriggers}
 use Rattle.uart_chip.proofs.conservation.Effects.{IsLevel, levelled}
-use Rattle.uart_chip.proofs.lasting.Lasting.{chip_lasts-before_mark}
-use Rattle.uart_run.specs.Ready.{Ready}
-use Rattle.uart_run.specs.Run.{State, machine_of, CallStep}
 use Rattle.uart_ring_runs.proofs.ThrSpared.{IsToCome, IsThrArmed, to_come, comes, in_events, at_once, spared_step, spare}
-use Rattle.uart_ring_runs.proofs.ThrSpared.{does_spare, spared_list}
+use Rattle.uart_ring_runs.proofs.{ThrSpared.does_spare, ThrSpared.spared_list, RingBlocks.AllLeaveLcr, RingDue.Holds, RingDue.IsDlabOff}
+use Rattle.uart_ring_runs.proofs.{RingDue.path_holds, CheckArms.checks_arm}
 use Rattle.uart_run.proofs.built.Receive.{waits_for}
 use Rattle.uart_run.proofs.built.Calls.{call_does}
-use Rattle.uart_run.proofs.CallLaws.{level_bits_keep}
-use Rattle.uart_run.proofs.FrameLaws.{framed_by}
-use Rattle.uart_run.proofs.Latches.{Kept, kept_in, keep, kept_access, kept_step}
-use Rattle.uart_run.proofs.Pieces.{next_stages}
-use Rattle.uart_ring_runs.specs.RingArmed.{LeavesThrEmpty}
-use Rattle.uart_ring.specs.Armed.{ThrEmpty, KeepsIer, known_after_all}
-use Rattle.uart_ring_runs.proofs.RingBlocks.{AllLeaveLcr}
-use Rattle.uart_ring_runs.proofs.RingDue.{Holds, IsDlabOff, path_holds}
-use Rattle.uart_ring_runs.proofs.CheckArms.{checks_arm}
 
 -- ---- writes of IER with the interrupt in it
 

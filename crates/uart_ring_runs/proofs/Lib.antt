@@ -1,3 +1,4 @@
+mod Names
 pub mod RingWalk
 pub mod RingBlocks
 pub mod RingLasts

@@ -1,43 +1,24 @@
 -- What each access does to the machine and to the notes above it, with the FIFO on and outside of loopback.
-use Rattle.std.proofs.Common.{◌≡◌, ◌⊎◌, ℕ, ◌<◌, Bool, true, false, not, ◌||◌, ◌==◌, inl, inr, List, [], ◌∷◌, ◌++◌, length, nat_lt}
-use Rattle.std.proofs.Common.{refl, sym, ◌∙◌, ap, subst, arith, append-nil, append_assoc, length-append, bit_and, bit_or}
-use Rattle.std.proofs.Common.{if◌then◌else◌}
-use Rattle.std.specs.List.{AllByRecursion}
-use Rattle.std.proofs.lemmas.Bool.{false≢true}
-use Rattle.std.proofs.lemmas.Grind.{common_steps}
+use Rattle.uart_ring_runs.proofs.Names.{◌≡◌, ◌⊎◌, ℕ, ◌<◌, Bool, true, false, not, ◌||◌, ◌==◌, inl, inr, List, [], ◌∷◌, ◌++◌, length, nat_lt}
+use Rattle.uart_ring_runs.proofs.Names.{refl, sym, ◌∙◌, ap, subst, arith, append-nil, append_assoc, length-append, bit_and, bit_or}
+use Rattle.uart_ring_runs.proofs.Names.{if◌then◌else◌, AllByRecursion, false≢true, common_steps, or_zero_r, Path, has, has_any, Access}
+use Rattle.uart_ring_runs.proofs.Names.{Read, Write, ChipState, is_dlab_set, is_loopback, line_status, after_read, after_write, front_of}
+use Rattle.uart_ring_runs.proofs.Names.{reported_front, MachineState, MachineStep, at_access, at_mark, kept_bit, ReceiverState}
+use Rattle.uart_ring_runs.proofs.Names.{front_errors, report, grow_timeout, IsMarked, IsSound, room, Character, both_if, ReadMove, takes}
+use Rattle.uart_ring_runs.proofs.Names.{looks, read_move, and_or, has_and, has_not, has_one, has_or, sound_access, sound_read, sound_write}
+use Rattle.uart_ring_runs.proofs.Names.{sound_mark, character_errors, line_errors, and_twice, Kept, kept_in, kept_access, kept_step}
+use Rattle.uart_ring_runs.proofs.Names.{kept-before_mark, Behind, came, behind_came, flag_came, lost_stays, Notes, with_access, told_errors}
+use Rattle.uart_ring_runs.proofs.Names.{Queue, shown_of, AreTheirs, AreUnlooked, IsInStep}
 use Rattle.std.proofs.lemmas.Nat.{and_assoc, or_comm}
-use lib.Bits.{or_zero_r}
-use Rattle.uart_spec.specs.Access.{Path}
-use Rattle.uart_spec.specs.Bits.{has, has_any}
-use Rattle.uart_spec.specs.declared.access.Access.{Access}
-use Rattle.uart_spec.specs.declared.access.Access.TheVariants.{Read, Write}
 use Rattle.uart_spec.specs.declared.registers.line_control.TheConstants.LCR
 use Rattle.uart_spec.specs.declared.registers.line_status.TheConstants.LSR
 use Rattle.uart_spec.specs.declared.registers.modem_control.TheConstants.MCR
 use Rattle.uart_spec.specs.declared.registers.offsets.TheConstants as offsets
-use Rattle.uart_chip.specs.Chip.{ChipState, is_dlab_set, is_loopback, line_status, after_read, after_write}
-use Rattle.uart_chip.specs.Laws.{front_of, reported_front}
-use Rattle.uart_chip.specs.Machine.{MachineState, MachineStep, at_access, at_mark}
-use Rattle.uart_chip.proofs.McrBits.{kept_bit}
 use Rattle.uart_chip.specs.Receiver as receiver
-use Rattle.uart_chip.specs.Receiver.{ReceiverState, front_errors, report, grow_timeout}
-use Rattle.uart_chip.specs.Sound.{IsMarked, IsSound}
 use Rattle.uart_spec.specs.declared.setup.FifoSize.{FifoSize}
-use Rattle.uart_chip.specs.Transmitter.{room}
-use Rattle.uart_chip.specs.declared.receiver.Character.{Character}
-use Rattle.uart_chip.proofs.AccessMoves.{both_if, ReadMove, takes, looks, read_move}
-use Rattle.uart_chip.proofs.Bits.{and_or, has_and, has_not, has_one, has_or}
-use Rattle.uart_chip.proofs.soundness.Sounds.{sound_access, sound_read, sound_write, sound_mark}
 use Rattle.uart_chip.proofs.statuses.Status.{status_overrun}
 use Rattle.uart_run.specs.Overruns.{IsLost, FlagTells}
-use Rattle.uart_run.specs.ReceivedErrors.{character_errors}
 use Rattle.uart_run.proofs.Between.{access_lasts, mark_lasts}
-use Rattle.uart_run.proofs.ExactErrors.{line_errors, and_twice}
-use Rattle.uart_run.proofs.Latches.{Kept, kept_in, kept_access, kept_step, kept-before_mark}
-use Rattle.uart_run.proofs.Overruns.{Behind, came, behind_came, flag_came, lost_stays}
-use Rattle.uart_ring.specs.Notes.{Notes, with_access, told_errors}
-use Rattle.uart_ring.specs.Queue.{Queue}
-use Rattle.uart_ring_runs.specs.NotedErrors.{shown_of, AreTheirs, AreUnlooked, IsInStep}
 
 -- ---- the receiver and what was shown of it
 

@@ -1,38 +1,18 @@
 -- What each block of accesses does to the machine and to the notes above it, with the FIFO on.
-use Rattle.std.proofs.Common.{◌≡◌, ◌⊎◌, ℕ, ◌<◌, ◌≤◌, Bool, true, false, ◌==◌, inl, inr, List, [], ◌∷◌, ◌++◌, length, map, nat_lt, take}
-use Rattle.std.proofs.Common.{refl, sym, ◌∙◌, ap, subst, arith, ◌-◌, bit_or}
-use Rattle.std.proofs.lemmas.Grind.{common_steps}
-use Rattle.std.proofs.lemmas.List.{take-append-drop, map-append}
-use Rattle.uart_spec.specs.Access.{Path}
-use Rattle.uart_spec.specs.Bits.{has, has_any}
-use Rattle.uart_spec.specs.declared.access.Access.{Access}
-use Rattle.uart_spec.specs.declared.access.Access.TheVariants.{Read, Write}
+use Rattle.uart_ring_runs.proofs.Names.{◌≡◌, ◌⊎◌, ℕ, ◌<◌, ◌≤◌, Bool, true, false, ◌==◌, inl, inr, List, [], ◌∷◌, ◌++◌, length, map, nat_lt}
+use Rattle.uart_ring_runs.proofs.Names.{take, refl, sym, ◌∙◌, ap, subst, arith, ◌-◌, bit_or, common_steps, take-append-drop, map-append}
+use Rattle.uart_ring_runs.proofs.Names.{Path, has, has_any, Access, Read, Write, is_dlab_set, is_loopback, room, reported_front}
+use Rattle.uart_ring_runs.proofs.Names.{MachineState, MachineStep, at_access, ReceiverState, Character, has_one, has_or, each-append}
+use Rattle.uart_ring_runs.proofs.Names.{each-weaker, IsOpen, Stands, stands-after, path_split, passed-look, look_data, look_reported, Took}
+use Rattle.uart_ring_runs.proofs.Names.{took, PassedBlocks, passed_block, Passed, passed-refl, passed-trans, passed-access, Modes, dlab-in}
+use Rattle.uart_ring_runs.proofs.Names.{character_errors, InBlocks, none_reported, Kept, HitTells, hit_tells, lost_stays, Notes}
+use Rattle.uart_ring_runs.proofs.Names.{with_access, with_latest, shown_of, only_bytes, IsInStep}
 use Rattle.uart_spec.specs.declared.registers.line_control.TheConstants.LCR
 use Rattle.uart_spec.specs.declared.registers.line_status.TheConstants.LSR
 use Rattle.uart_spec.specs.declared.registers.offsets.TheConstants as offsets
-use Rattle.uart_chip.specs.Chip.{is_dlab_set, is_loopback}
-use Rattle.uart_chip.specs.Transmitter.{room}
-use Rattle.uart_chip.specs.Laws.{reported_front}
-use Rattle.uart_chip.specs.Machine.{MachineState, MachineStep, at_access}
-use Rattle.uart_chip.specs.Receiver.{ReceiverState}
-use Rattle.uart_chip.specs.declared.receiver.Character.{Character}
-use Rattle.uart_chip.proofs.Bits.{has_one, has_or}
-use Rattle.uart_chip.proofs.Lists.{each-append, each-weaker}
 use Rattle.uart_chip.proofs.conservation.Blocks.{is_quiet, Block, Look, Hit, Burst, Other, Divisor, accesses_of, AllQuiet, IsFit, AllFit}
 use Rattle.uart_chip.proofs.conservation.Blocks.{flat, written_in, read_in, data_written, data_read}
-use Rattle.uart_chip.proofs.conservation.BlockLaws.{IsOpen, Stands, stands-after, path_split, passed-look, look_data}
-use Rattle.uart_chip.proofs.conservation.BlockLaws.{look_reported, Took, took, PassedBlocks, passed_block}
-use Rattle.uart_chip.proofs.conservation.Passed.{Passed, passed-refl, passed-trans, passed-access}
-use Rattle.uart_chip.proofs.conservation.Went.{Modes, dlab-in}
 use Rattle.uart_chip.proofs.statuses.Reports.{IsReported}
-use Rattle.uart_run.specs.ReceivedErrors.{character_errors}
-use Rattle.uart_run.proofs.CallBlocks.{InBlocks}
-use Rattle.uart_run.proofs.ExactErrors.{none_reported}
-use Rattle.uart_run.proofs.Latches.{Kept}
-use Rattle.uart_run.proofs.Overruns.{HitTells, hit_tells, lost_stays}
-use Rattle.uart_ring.specs.Notes.{Notes, with_access}
-use Rattle.uart_ring.specs.Queue.{with_latest}
-use Rattle.uart_ring_runs.specs.NotedErrors.{shown_of, only_bytes, IsInStep}
 use Rattle.uart_ring_runs.proofs.NotedAccesses.{Along, Noted, Tame, Looks, Reads, Sends, Enables, Frames, Keeps, AllTame, all_tame_noted}
 use Rattle.uart_ring_runs.proofs.NotedAccesses.{either, either_shown, look_noted, tame_noted, latch_noted, noted_then, noted_start}
 use Rattle.uart_ring_runs.proofs.NotedAccesses.{with_accesses, with_append, fits_access, read_kept, read_sound}

@@ -1,51 +1,21 @@
 -- What each call of the rings themselves does to the machine and to the notes, with the FIFO on.
-use Rattle.std.proofs.Common.{◌≡◌, ℕ, Bool, true, false, List, [], ◌∷◌, ◌++◌, append-nil, append_assoc, refl, sym, ◌∙◌, ap, subst}
-use Rattle.std.proofs.Common.{Option, Some, None}
-use Rattle.std.specs.Prelude.{All}
-use Rattle.std.proofs.lemmas.List.{map-append}
-use Rattle.std.proofs.lemmas.List.Elements.{All-head, All-tail}
-use Rattle.uart_spec.specs.Access.{Path}
-use Rattle.uart_spec.specs.Bits.{has, has_any}
-use Rattle.uart_spec.specs.declared.access.Access.{Access}
-use Rattle.uart_spec.specs.declared.access.Access.TheVariants.{Read, Write}
+use Rattle.uart_ring_runs.proofs.Names.{◌≡◌, ℕ, Bool, true, false, List, [], ◌∷◌, ◌++◌, append-nil, append_assoc, refl, sym, ◌∙◌, ap, subst}
+use Rattle.uart_ring_runs.proofs.Names.{Option, Some, None, All, map-append, All-head, All-tail, Path, has, has_any, Access, Read, Write}
+use Rattle.uart_ring_runs.proofs.Names.{switched, unlooped, settings_of, Settings, MachineState, MachineStep, Character, IsOpen}
+use Rattle.uart_ring_runs.proofs.Names.{stands-after, Passed, passed-refl, passed-trans, passed-mark, Modes, calls_of, BurstsFit, most_in}
+use Rattle.uart_ring_runs.proofs.Names.{session_room, fits_by, has_not, IsWired, data_written, data_read, LosesOnly, with_accepted, Notes}
+use Rattle.uart_ring_runs.proofs.Names.{NotesErrors, notes_of, write_if_other, rts_at, MakesRtsIfAny, RingDoing, RingFields, ring_fields}
+use Rattle.uart_ring_runs.proofs.Names.{ring_backend_of, free, ErrorNotes, adjusts_lose_nothing, RingAnswer, RingCall, NotedState}
+use Rattle.uart_ring_runs.proofs.Names.{without_notes, notes_in, only_bytes, NotedCallStep, NotedLink, NotedChain, link_without_notes}
+use Rattle.uart_ring_runs.proofs.Names.{links_without_notes, to_take, gone_in, gone, under, ring_machine, IsOfRings, RingCalled}
+use Rattle.uart_ring_runs.proofs.Names.{RingCallStep, RingChain, IsWithinRingSession, AllWithinRingSession}
 use Rattle.uart_spec.specs.declared.registers.modem_control.TheConstants.MCR
 use Rattle.uart_spec.specs.declared.registers.offsets.TheConstants as offsets
-use Rattle.uart_16550.specs.Frame.{switched, unlooped}
-use Rattle.uart_16550.specs.Driver.{settings_of}
-use Rattle.uart_16550.specs.Grammar.{Settings}
-use Rattle.uart_chip.specs.Machine.{MachineState, MachineStep}
-use Rattle.uart_chip.specs.declared.receiver.Character.{Character}
-use Rattle.uart_chip.proofs.conservation.BlockLaws.{IsOpen, stands-after}
-use Rattle.uart_chip.proofs.conservation.Passed.{Passed, passed-refl, passed-trans, passed-mark}
-use Rattle.uart_chip.proofs.conservation.Went.{Modes}
-use Rattle.uart_run.specs.Chains.{calls_of}
-use Rattle.uart_run.specs.Ready.{BurstsFit}
-use Rattle.uart_run.proofs.CallBlocks.{most_in}
-use Rattle.uart_run.proofs.CallLaws.{session_room}
-use Rattle.uart_run.proofs.SizeKept.{fits_by}
-use Rattle.uart_chip.proofs.Bits.{has_not}
-use Rattle.uart_run.specs.Wired.{IsWired}
-use Rattle.uart_ring.specs.Lossless.{data_written, data_read, LosesOnly, with_accepted}
-use Rattle.uart_ring.specs.Notes.{Notes, NotesErrors, notes_of}
-use Rattle.uart_ring.specs.Receive.{write_if_other, rts_at, MakesRtsIfAny}
-use Rattle.uart_ring.specs.Ring.{RingDoing, RingFields, ring_fields, ring_backend_of, free}
-use Rattle.uart_ring.specs.declared.notes.ErrorNotes.{ErrorNotes}
-use Rattle.uart_ring.proofs.Losses.{adjusts_lose_nothing}
-use Rattle.uart_ring_runs.specs.declared.call.RingAnswer.{RingAnswer}
-use Rattle.uart_ring_runs.specs.declared.call.RingCall.{RingCall}
 use Rattle.uart_ring_runs.specs.declared.call.RingCall.TheVariants as call
-use Rattle.uart_ring_runs.specs.NotedErrors.{NotedState, without_notes, notes_in, only_bytes, NotedCallStep, NotedLink, NotedChain}
-use Rattle.uart_ring_runs.specs.NotedErrors.{link_without_notes, links_without_notes}
-use Rattle.uart_ring_runs.specs.RingBytes.{to_take, gone_in, gone}
-use Rattle.uart_ring_runs.specs.RingRun.{under, ring_machine, IsOfRings, RingCalled, RingCallStep, RingChain}
-use Rattle.uart_ring_runs.specs.RingSession.{IsWithinRingSession, AllWithinRingSession}
 use Rattle.uart_ring_runs.proofs.NotedAccesses.{Along, Noted, Reads, Steers, AllTame, all_tame_noted, noted_then, noted_start, noted_mark}
-use Rattle.uart_ring_runs.proofs.NotedAccesses.{with_accesses}
-use Rattle.uart_ring_runs.proofs.NotedBlocks.{no_bytes, noted_in_blocks}
-use Rattle.uart_ring_runs.proofs.RingBlocks.{MakesBlocks, in_blocks}
-use Rattle.uart_ring_runs.proofs.RingLasts.{first_within}
-use Rattle.uart_ring_runs.proofs.RingMeanings.{Meant, meaning_of}
-use Rattle.uart_ring_runs.proofs.RingRts.{with_mcr_of, modes_at, InRingSession, came_rts}
+use Rattle.uart_ring_runs.proofs.{NotedAccesses.with_accesses, NotedBlocks.no_bytes, NotedBlocks.noted_in_blocks, RingBlocks.MakesBlocks}
+use Rattle.uart_ring_runs.proofs.{RingBlocks.in_blocks, RingLasts.first_within, RingMeanings.Meant, RingMeanings.meaning_of}
+use Rattle.uart_ring_runs.proofs.{RingRts.with_mcr_of, RingRts.modes_at, RingRts.InRingSession, RingRts.came_rts}
 
 -- ---- the machine under the notes
 

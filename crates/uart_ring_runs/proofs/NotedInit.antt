@@ -1,46 +1,21 @@
 -- The notes are in step after an `init` of a chip with a FIFO that is not in loopback.
-use Rattle.std.proofs.Common.{◌≡◌, ℕ, zero, suc, Bool, true, false, inl, inr, List, [], ◌∷◌, ◌++◌, refl, sym, ◌∙◌, ap}
-use Rattle.std.proofs.Common.{subst, Option, Some, Ok}
-use Rattle.uart_events.specs.declared.event.Chip.{Chip}
-use Rattle.uart_events.specs.declared.event.Chip.TheVariants.{Uart16550A}
-use Rattle.uart_spec.specs.Access.{Path}
-use Rattle.uart_spec.specs.Bits.{has, has_any}
-use Rattle.uart_spec.specs.declared.access.Access.{Access}
-use Rattle.uart_spec.specs.declared.access.Access.TheVariants.{Read, Write}
-use Rattle.uart_spec.specs.declared.config.Config.{Config}
+use Rattle.uart_ring_runs.proofs.Names.{◌≡◌, ℕ, zero, suc, Bool, true, false, inl, inr, List, [], ◌∷◌, ◌++◌, refl, sym, ◌∙◌, ap, subst}
+use Rattle.uart_ring_runs.proofs.Names.{Option, Some, Ok, Chip, Uart16550A, Path, has, has_any, Access, Read, Write, Config}
+use Rattle.uart_ring_runs.proofs.Names.{FifoTriggerLevel, Did, Fields, backend_of, settings_of, Language, Settings, Times, Asks}
+use Rattle.uart_ring_runs.proofs.Names.{raised_outputs, ChecksPresence, frame_bits, line_writes, fifo_bits, SetsFifo, Discards}
+use Rattle.uart_ring_runs.proofs.Names.{DrainsReceiver, Begins, Ends, Inits, WaitsFor, Uart16550, ChipState, cut_of, is_dlab_set}
+use Rattle.uart_ring_runs.proofs.Names.{is_loopback, set_fifo, control, front_of, reported_front, MachineState, MachineStep, at_access}
+use Rattle.uart_ring_runs.proofs.Names.{ReceiverState, IsSound, Character, both_if, read_move, has_one, path_split, Modes, sound_path, Kept}
+use Rattle.uart_ring_runs.proofs.Names.{kept_in, keep, keep_control, kept_after, kept_access, kept_step, kept_path, Notes, NotesErrors}
+use Rattle.uart_ring_runs.proofs.Names.{notes_of, with_access, ErrorNotes, shown_of, IsInStep, AreUnlooked}
 use Rattle.uart_spec.specs.declared.registers.fifo_control.TheConstants.FCR
-use Rattle.uart_spec.specs.declared.registers.fifo_trigger_level.FifoTriggerLevel.{FifoTriggerLevel}
 use Rattle.uart_spec.specs.declared.registers.fifo_trigger_level.FifoTriggerLevel.TheVariants.{One, Four, Eight, Fourteen}
-use Rattle.uart_spec.specs.declared.registers.interrupt_status.TheConstants.ISR
 use Rattle.uart_spec.specs.declared.registers.line_status.TheConstants.LSR
 use Rattle.uart_spec.specs.declared.registers.offsets.TheConstants as offsets
-use Rattle.uart_16550.specs.Driver.{Did, Fields, backend_of, settings_of}
-use Rattle.uart_16550.specs.Grammar.{Language, Settings, Times, Asks}
-use Rattle.uart_16550.specs.Init.{raised_outputs, ChecksPresence, frame_bits, line_writes, fifo_bits, SetsFifo, Discards, DrainsReceiver}
-use Rattle.uart_16550.specs.Init.{Begins, Ends, Inits}
-use Rattle.uart_16550.specs.Transmit.{WaitsFor}
-use Rattle.uart_16550.specs.declared.driver.Uart16550.{Uart16550}
-use Rattle.uart_chip.specs.Chip.{ChipState, cut_of, is_dlab_set, is_loopback, set_fifo, control}
-use Rattle.uart_chip.specs.Laws.{front_of, reported_front}
-use Rattle.uart_chip.specs.Machine.{MachineState, MachineStep, at_access}
-use Rattle.uart_chip.specs.Receiver.{ReceiverState}
-use Rattle.uart_chip.specs.Sound.{IsSound}
-use Rattle.uart_chip.specs.declared.receiver.Character.{Character}
-use Rattle.uart_chip.proofs.AccessMoves.{both_if, read_move}
-use Rattle.uart_chip.proofs.Bits.{has_one}
-use Rattle.uart_chip.proofs.conservation.BlockLaws.{path_split}
-use Rattle.uart_chip.proofs.conservation.Went.{Modes}
-use Rattle.uart_chip.proofs.soundness.Sounds.{sound_path}
-use Rattle.uart_run.proofs.Latches.{Kept, kept_in, keep, keep_control, kept_after, kept_access, kept_step, kept_path}
 use Rattle.uart_run.proofs.initialising.Inits.{frame-dlab, checked}
-use Rattle.uart_ring.specs.Notes.{Notes, NotesErrors, notes_of, with_access}
-use Rattle.uart_ring.specs.declared.notes.ErrorNotes.{ErrorNotes}
-use Rattle.uart_ring_runs.specs.NotedErrors.{shown_of, IsInStep, AreUnlooked}
 use Rattle.uart_ring_runs.proofs.NotedAccesses.{Along, Tame, Looks, Reads, Enables, Steers, tame_noted, with_accesses, with_append}
-use Rattle.uart_ring_runs.proofs.NotedAccesses.{notes_begin}
-use Rattle.uart_ring_runs.proofs.NotedAccesses.{front_until, other_read, write_sound}
-use Rattle.uart_ring_runs.proofs.NotedBlocks.{hit_begins}
-use Rattle.uart_ring_runs.proofs.NotedCalls.{parted}
+use Rattle.uart_ring_runs.proofs.{NotedAccesses.notes_begin, NotedAccesses.front_until, NotedAccesses.other_read, NotedAccesses.write_sound}
+use Rattle.uart_ring_runs.proofs.{NotedBlocks.hit_begins, NotedCalls.parted}
 
 -- ---- what a list leads to
 

@@ -1,41 +1,21 @@
 -- Which errors the bytes of the receive ring have after calls of the rings themselves, and what `take_with_errors` returns.
-use Rattle.std.proofs.Common.{◌≡◌, ℕ, zero, suc, ◌+◌, ◌-◌, ◌≤◌, true, false, min, List, [], ◌∷◌, ◌++◌, length, take, drop, None, refl, sym}
-use Rattle.std.proofs.Common.{◌∙◌, ap, subst}
-use Rattle.std.proofs.Common.{arith, append_assoc, length-append, length-drop, length-take, take-append-drop}
-use Rattle.std.specs.Prelude.{All}
-use Rattle.std.proofs.Math.Seq.{drop-append-add, drop-append_seam, take-append_seam}
-use Rattle.std.proofs.lemmas.List.{map-append, length-map, take_min}
+use Rattle.uart_ring_runs.proofs.Names.{◌≡◌, ℕ, zero, suc, ◌+◌, ◌-◌, ◌≤◌, true, false, min, List, [], ◌∷◌, ◌++◌, length, take, drop, None}
+use Rattle.uart_ring_runs.proofs.Names.{refl, sym, ◌∙◌, ap, subst, arith, append_assoc, length-append, length-drop, length-take}
+use Rattle.uart_ring_runs.proofs.Names.{take-append-drop, All, drop-append-add, drop-append_seam, take-append_seam, map-append, length-map}
+use Rattle.uart_ring_runs.proofs.Names.{take_min, Path, has_any, Read, reported_front, MachineState, MachineStep, ReceiverState, IsSound}
+use Rattle.uart_ring_runs.proofs.Names.{Character, taken_entered, Modes, dlab-in, calls_of, Ready, modes_of, modes_cut, in_session, Notes}
+use Rattle.uart_ring_runs.proofs.Names.{NotesErrors, notes_of, noted_in, unnoted_in, errors_in, bytes_of, errors_of, latest, TakesBytes}
+use Rattle.uart_ring_runs.proofs.Names.{RingDid, ring_fields, ring_backend_of, ErrorNotes, NotedState, without_notes, notes_in, receiver_of}
+use Rattle.uart_ring_runs.proofs.Names.{only_bytes, AreTheirs, AreExact, shown_of, AreUnlooked, IsInStep, MayBegin, NotedLink, NotedChain}
+use Rattle.uart_ring_runs.proofs.Names.{NotesExactly, links_without_notes, to_take, gone, under, ring_machine, IsOfRings}
+use Rattle.uart_ring_runs.proofs.Names.{AllWithinRingSession}
 use Rattle.uart_spec.specs.declared.received.Received.{Received}
-use Rattle.uart_spec.specs.Access.{Path}
-use Rattle.uart_spec.specs.Bits.{has_any}
-use Rattle.uart_spec.specs.declared.access.Access.TheVariants.{Read}
 use Rattle.uart_spec.specs.declared.registers.line_status.TheConstants.LSR
 use Rattle.uart_spec.specs.declared.registers.offsets.TheConstants as offsets
-use Rattle.uart_chip.specs.Laws.{reported_front}
-use Rattle.uart_chip.specs.Machine.{MachineState, MachineStep}
-use Rattle.uart_chip.specs.Receiver.{ReceiverState}
-use Rattle.uart_chip.specs.Sound.{IsSound}
-use Rattle.uart_chip.specs.declared.receiver.Character.{Character}
-use Rattle.uart_chip.proofs.conservation.SessionLaws.{taken_entered}
-use Rattle.uart_chip.proofs.conservation.Went.{Modes, dlab-in}
-use Rattle.uart_run.specs.Chains.{calls_of}
-use Rattle.uart_run.specs.Ready.{Ready}
-use Rattle.uart_run.proofs.SessionCalls.{modes_of, modes_cut, in_session}
-use Rattle.uart_ring.specs.Notes.{Notes, NotesErrors, notes_of, noted_in, unnoted_in, errors_in, bytes_of, errors_of}
-use Rattle.uart_ring.specs.Queue.{latest}
-use Rattle.uart_ring.specs.Receive.{TakesBytes}
-use Rattle.uart_ring.specs.Ring.{RingDid, ring_fields, ring_backend_of}
-use Rattle.uart_ring.specs.declared.notes.ErrorNotes.{ErrorNotes}
-use Rattle.uart_ring_runs.specs.NotedErrors.{NotedState, without_notes, notes_in, receiver_of, only_bytes, AreTheirs, Holds, AreExact}
-use Rattle.uart_ring_runs.specs.NotedErrors.{shown_of, AreUnlooked, IsInStep, MayBegin, NotedLink, NotedChain, NotesExactly}
-use Rattle.uart_ring_runs.specs.NotedErrors.{links_without_notes}
-use Rattle.uart_ring_runs.specs.RingBytes.{to_take, gone}
-use Rattle.uart_ring_runs.specs.RingRun.{under, ring_machine, IsOfRings}
-use Rattle.uart_ring_runs.specs.RingSession.{AllWithinRingSession}
+use Rattle.uart_ring_runs.specs.NotedErrors.{Holds}
 use Rattle.uart_ring_runs.proofs.NotedAccesses.{Along, notes_begin, theirs_later, theirs_append}
-use Rattle.uart_ring_runs.proofs.NotedBlocks.{hit_begins}
-use Rattle.uart_ring_runs.proofs.NotedCalls.{CallNoted, parted, chain_noted, in_session_noted}
-use Rattle.uart_ring_runs.proofs.RingRts.{modes_at, begins_session}
+use Rattle.uart_ring_runs.proofs.{NotedBlocks.hit_begins, NotedCalls.CallNoted, NotedCalls.parted, NotedCalls.chain_noted}
+use Rattle.uart_ring_runs.proofs.{NotedCalls.in_session_noted, RingRts.modes_at, RingRts.begins_session}
 
 -- ---- some of them
 

@@ -1,17 +1,9 @@
 -- A session of calls of the rings themselves conserves without the conditions that calls of the driver bring.
-use Rattle.std.proofs.Common.{ℕ, List, [], ◌∷◌, ◌++◌, subst}
-use Rattle.std.specs.Prelude.{All}
-use Rattle.std.proofs.lemmas.List.Elements.{All-head, All-tail, All-nil, All-cons}
-use Rattle.uart_events.specs.declared.call.Call.{Call}
+use Rattle.uart_ring_runs.proofs.Names.{ℕ, List, [], ◌∷◌, ◌++◌, subst, All, All-head, All-tail, All-nil, All-cons, Call, calls_of, RingCall}
+use Rattle.uart_ring_runs.proofs.Names.{RingAnswer, RingState, IsOfRings, RingLink, AllLeaveRingArmed, TellsAtEnd, TellsSinceFirst}
+use Rattle.uart_ring_runs.proofs.Names.{RingConserves}
 use Rattle.uart_events.specs.declared.call.Call.TheVariants as driver
-use Rattle.uart_run.specs.Chains.{calls_of}
-use Rattle.uart_ring_runs.specs.declared.call.RingCall.{RingCall}
 use Rattle.uart_ring_runs.specs.declared.call.RingCall.TheVariants as call
-use Rattle.uart_ring_runs.specs.declared.call.RingAnswer.{RingAnswer}
-use Rattle.uart_ring_runs.specs.RingRun.{RingState, IsOfRings, RingLink}
-use Rattle.uart_ring_runs.specs.RingArmed.{AllLeaveRingArmed}
-use Rattle.uart_ring_runs.specs.RingStatuses.{TellsAtEnd, TellsSinceFirst}
-use Rattle.uart_ring_runs.specs.RingSession.{RingConserves}
 use Rattle.uart_ring_runs.specs.OwnSession.{OwnTellsAtEnd, OwnTellsSinceFirst, AllOwnLeaveArmed, OwnConserves}
 use Rattle.uart_ring_runs.proofs.RingOwn.{own_in_turn, own_keeps_armed, own_neither}
 

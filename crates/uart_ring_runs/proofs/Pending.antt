@@ -1,21 +1,13 @@
 -- How many interrupts a chip may still show without news from outside, and what events and accesses do to that.
-use Rattle.std.proofs.Common.{◌≡◌, ℕ, ◌+◌, ◌≤◌, ◌<◌, ◌==◌, ◌-◌, ◌||◌, zero, suc, Bool, true, false, not, nat_lt, List, [], ◌∷◌, ◌++◌}
-use Rattle.std.proofs.Common.{length, length-append, Option, Some, None, refl, sym, ◌∙◌, ap, subst, arith}
-use Rattle.std.proofs.lemmas.Bool.Decides.{nat_tests}
-use Rattle.uart_spec.specs.Bits.{has_any}
+use Rattle.uart_ring_runs.proofs.Names.{◌≡◌, ℕ, ◌+◌, ◌≤◌, ◌<◌, ◌==◌, ◌-◌, ◌||◌, zero, suc, Bool, true, false, not, nat_lt, List, [], ◌∷◌}
+use Rattle.uart_ring_runs.proofs.Names.{◌++◌, length, length-append, Option, Some, None, refl, sym, ◌∙◌, ap, subst, arith, nat_tests}
+use Rattle.uart_ring_runs.proofs.Names.{has_any, Event, Ticks, Arrive, Lines, Mark, Gate, Character, Shifting, TransmitterState, shift}
+use Rattle.uart_ring_runs.proofs.Names.{refill, room, ReceiverState, enter, replace, front_errors, ChipState, LatchesState, tick, ticks}
+use Rattle.uart_ring_runs.proofs.Names.{arrive, change_lines, is_loopback, is_held_off, MachineState, perform, before_access, after_access}
+use Rattle.uart_ring_runs.proofs.Names.{both_if, news}
 use Rattle.uart_spec.specs.declared.registers.interrupt_enable.TheConstants.IER
-use Rattle.uart_events.specs.declared.event.Event.{Event}
-use Rattle.uart_events.specs.declared.event.Event.TheVariants.{Ticks, Arrive, Lines, Mark, Access as Gate}
-use Rattle.uart_chip.specs.declared.receiver.Character.{Character}
-use Rattle.uart_chip.specs.declared.transmitter.Shifting.{Shifting}
 use Rattle.uart_chip.specs.Transmitter as transmitter
-use Rattle.uart_chip.specs.Transmitter.{TransmitterState, shift, refill, room}
 use Rattle.uart_chip.specs.Receiver as receiver
-use Rattle.uart_chip.specs.Receiver.{ReceiverState, enter, replace, front_errors}
-use Rattle.uart_chip.specs.Chip.{ChipState, LatchesState, tick, ticks, arrive, change_lines, is_loopback, is_held_off}
-use Rattle.uart_chip.specs.Machine.{MachineState, perform, before_access, after_access}
-use Rattle.uart_chip.proofs.AccessMoves.{both_if}
-use Rattle.uart_ring_runs.specs.Healthy.{news}
 
 -- ---- what is left to be shown
 

@@ -1,31 +1,17 @@
 -- A ring call leaves the THR-empty interrupt armed over the chip.
-use Rattle.std.proofs.Common.{◌<◌, ◌⊎◌, ℕ, List, [], ◌∷◌, length, inl, inr, refl, sym, ◌∙◌, subst, arith}
-use Rattle.uart_spec.specs.Access.{Path}
-use Rattle.uart_spec.specs.declared.access.Access.{Access}
+use Rattle.uart_ring_runs.proofs.Names.{◌<◌, ◌⊎◌, ℕ, List, [], ◌∷◌, length, inl, inr, refl, sym, ◌∙◌, subst, arith, Path, Access, Call}
+use Rattle.uart_ring_runs.proofs.Names.{MachineState, MachineStep, at_mark, Modes, dlab-in, loopback-in, IsUnchecked, Ready, InSession}
+use Rattle.uart_ring_runs.proofs.Names.{RingFields, ring_fields, free, ThrEmpty, known_after_all, IsArmed, LeavesArmed, Arms, rts_at}
+use Rattle.uart_ring_runs.proofs.Names.{RingCall, RingAnswer, RingState, under, ring_machine, DriverCalled, IsOfRings, RingCallStep}
+use Rattle.uart_ring_runs.proofs.Names.{RingLink, RingChain, thr_empty_of, IsRingArmed, LeavesThrEmpty, KeepsArmed, RearmsRing}
+use Rattle.uart_ring_runs.proofs.Names.{AllLeaveRingArmed, AllWithinRingSession}
 use Rattle.uart_spec.specs.declared.registers.offsets.TheConstants as offsets
-use Rattle.uart_events.specs.declared.call.Call.{Call}
-use Rattle.uart_chip.specs.Machine.{MachineState, MachineStep, at_mark}
-use Rattle.uart_chip.proofs.conservation.Went.{Modes, dlab-in, loopback-in}
-use Rattle.uart_run.specs.Progress.{IsUnchecked}
-use Rattle.uart_run.specs.Ready.{Ready}
-use Rattle.uart_run.proofs.CallLaws.{InSession}
-use Rattle.uart_ring.specs.Ring.{RingFields, ring_fields, free}
-use Rattle.uart_ring.specs.Armed.{ThrEmpty, known_after_all, IsArmed, LeavesArmed, Arms}
 use Rattle.uart_ring.proofs.Arming.{adjusts_leave}
-use Rattle.uart_ring.specs.Receive.{rts_at}
-use Rattle.uart_ring_runs.specs.declared.call.RingCall.{RingCall}
 use Rattle.uart_ring_runs.specs.declared.call.RingCall.TheVariants as call
-use Rattle.uart_ring_runs.specs.declared.call.RingAnswer.{RingAnswer}
-use Rattle.uart_ring_runs.specs.RingRun.{RingState, under, ring_machine, DriverCalled, IsOfRings, RingCallStep, RingLink, RingChain}
-use Rattle.uart_ring_runs.specs.RingArmed.{thr_empty_of, IsRingArmed, LeavesThrEmpty, KeepsArmed, RearmsRing, AllLeaveRingArmed}
-use Rattle.uart_ring_runs.proofs.RingBlocks.{AllLeaveLcr, MakesBlocks, in_blocks}
-use Rattle.uart_ring_runs.proofs.RingMeanings.{Meant, meaning_of}
-use Rattle.uart_ring_runs.specs.RingSession.{AllWithinRingSession}
-use Rattle.uart_ring_runs.proofs.DriverArms.{driver_arms}
-use Rattle.uart_ring_runs.proofs.RingLasts.{driver_step, first_within}
-use Rattle.uart_ring_runs.proofs.RingRts.{rts_leaves}
-use Rattle.uart_ring_runs.proofs.RingGoes.{ring_goes_call, in_session-gone}
-use Rattle.uart_ring_runs.proofs.RingDue.{Holds, IsDlabOff, path_holds, mark_holds}
+use Rattle.uart_ring_runs.proofs.{RingBlocks.AllLeaveLcr, RingBlocks.MakesBlocks, RingBlocks.in_blocks, RingMeanings.Meant}
+use Rattle.uart_ring_runs.proofs.{RingMeanings.meaning_of, DriverArms.driver_arms, RingLasts.driver_step, RingLasts.first_within}
+use Rattle.uart_ring_runs.proofs.{RingRts.rts_leaves, RingGoes.ring_goes_call, RingGoes.in_session-gone, RingDue.Holds, RingDue.IsDlabOff}
+use Rattle.uart_ring_runs.proofs.{RingDue.path_holds, RingDue.mark_holds}
 
 -- what is armed as far as is known is armed
 known_armed : (known : ThrEmpty) (f : RingFields) (m : MachineState) → Holds known m → IsArmed known f → IsArmed (thr_empty_of m) f

@@ -2,27 +2,18 @@
 --
 -- This is all that is shown anew over the chip. That nothing is lost between the rings and DATA is the law over any
 -- backend, and what the chip does with DATA is the law of blocks.
-use Rattle.std.proofs.Common.{◌≡◌, ◌==◌, ℕ, Bool, true, false, inl, inr, MatchBool, List, [], ◌∷◌, ◌++◌, take, refl, ◌∙◌, ap, subst}
-use Rattle.uart_spec.specs.declared.access.Access.{Access}
-use Rattle.uart_spec.specs.declared.access.Access.TheVariants.{Read, Write}
-use Rattle.uart_spec.specs.declared.errors.ByteSendError.TheVariants.{NoCapacity, RemoteNotClearToSend}
+use Rattle.uart_ring_runs.proofs.Names.{◌≡◌, ℕ, Bool, true, false, inl, inr, MatchBool, List, [], ◌∷◌, ◌++◌, take, refl, ◌∙◌, ap, subst}
+use Rattle.uart_ring_runs.proofs.Names.{Access, Read, NoCapacity, RemoteNotClearToSend, Settings, Only, Then, Asks, InOrder, Fields, Saving}
+use Rattle.uart_ring_runs.proofs.Names.{settings_of, Receives, Hit, Sends, SendHit, SendMiss, LinesAllow, data_writes, Enables, Disables}
+use Rattle.uart_ring_runs.proofs.Names.{TakesLsr, TakesMsr, RingDoing, data_written, data_read, data_written-append, data_read-append}
+use Rattle.uart_ring_runs.proofs.Names.{Moves, sends_move, receives_move, each-append, InBlocks, most_in, blocks_none, blocks_then}
+use Rattle.uart_ring_runs.proofs.Names.{sends_blocks, receives_blocks, LeavesRegister, NeverWrites}
 use Rattle.uart_spec.specs.declared.registers.line_status.TheConstants.LSR
 use Rattle.uart_spec.specs.declared.registers.offsets.TheConstants as offsets
-use Rattle.uart_16550.specs.Grammar.{Settings, Only, Then, Asks, InOrder}
-use Rattle.uart_16550.specs.Driver.{Fields, Saving, settings_of}
-use Rattle.uart_16550.specs.Receive.{Receives, Hit}
-use Rattle.uart_16550.specs.Transmit.{Sends, SendHit, SendMiss, LinesAllow, data_writes}
-use Rattle.uart_16550.specs.Status.{Enables, Disables, TakesLsr, TakesMsr}
-use Rattle.uart_ring.specs.Ring.{RingDoing}
 use Rattle.uart_16550.specs.Status as status
-use Rattle.uart_ring.specs.Lossless.{data_written, data_read}
-use Rattle.uart_ring.proofs.Losses.{data_written-append, data_read-append, Moves, sends_move, receives_move}
 use Rattle.uart_ring_runs.proofs.RingWalk.{Walks, InRings}
-use Rattle.uart_chip.proofs.Lists.{each-append}
-use Rattle.uart_run.proofs.CallBlocks.{InBlocks, most_in, blocks_none, blocks_then, sends_blocks, receives_blocks}
 use Rattle.uart_run.proofs.CallKeeps.{plain_blocks, quiet_blocks, saving_keeps, enables_keeps, disables_keeps, takes_lsr_keeps}
 use Rattle.uart_run.proofs.CallKeeps.{takes_msr_keeps}
-use Rattle.uart_run.proofs.NeverSwitched.{LeavesRegister, NeverWrites}
 
 -- ---- lists that do not write LCR
 

@@ -1,38 +1,20 @@
 -- The THR-empty interrupt of the chip: what accesses tell of it holds.
-use Rattle.std.proofs.Common.{◌≡◌, ℕ, ◌-◌, ◌<◌, ◌==◌, ◌⊎◌, ◌||◌, ◌&&◌, Bool, true, false, not, nat_lt, inl, inr, List, [], ◌∷◌}
-use Rattle.std.proofs.Common.{◌++◌, length, length-append, Option, Some, None, refl, sym, ◌∙◌, ap, arith, bit_and, if◌then◌else◌}
-use Rattle.std.proofs.lemmas.Bool.{and_parts, or_cases, not-true, false≢true}
-use Rattle.std.proofs.lemmas.Bool.Decides.{nat_tests}
+use Rattle.uart_ring_runs.proofs.Names.{◌≡◌, ℕ, ◌-◌, ◌<◌, ◌==◌, ◌⊎◌, ◌||◌, ◌&&◌, Bool, true, false, not, nat_lt, inl, inr, List, [], ◌∷◌}
+use Rattle.uart_ring_runs.proofs.Names.{◌++◌, length, length-append, Option, Some, None, refl, sym, ◌∙◌, ap, arith, bit_and, if◌then◌else◌}
+use Rattle.uart_ring_runs.proofs.Names.{and_parts, or_cases, not-true, false≢true, nat_tests, Path, Access, Read, Write, has, has_any}
+use Rattle.uart_ring_runs.proofs.Names.{InterruptType, Chip, Uart16550A, Uart16450, Shifting, ier_bits, report, TransmitterState, shift}
+use Rattle.uart_ring_runs.proofs.Names.{refill, load, room, ChipState, cut_of, is_dlab_set, interrupt, is_thr_empty, after_read, enable}
+use Rattle.uart_ring_runs.proofs.Names.{with_thr_pending, isr_of, MachineState, MachineStep, at_access, at_mark, at_least_16, has_one}
+use Rattle.uart_ring_runs.proofs.Names.{has_and, look_room, either, lasts-before, lasts-before_mark, shows_64, Kept, keep_control}
+use Rattle.uart_ring_runs.proofs.Names.{keep_write, kept_in, kept_access, kept_step, kept-before_mark, ThrEmpty, shows_thr_empty}
+use Rattle.uart_ring_runs.proofs.Names.{due_after_read, known_after, known_after_all, IsTrueOfIer, KeepsIer, is_due, thr_empty_of}
 use Rattle.std.proofs.Math.Bool.{or-true}
-use Rattle.uart_spec.specs.Access.{Path}
-use Rattle.uart_spec.specs.declared.access.Access.{Access}
-use Rattle.uart_spec.specs.declared.access.Access.TheVariants.{Read, Write}
-use Rattle.uart_spec.specs.Bits.{has, has_any}
 use Rattle.uart_spec.specs.declared.registers.interrupt_enable.TheConstants.IER
-use Rattle.uart_spec.specs.declared.registers.interrupt_type.InterruptType.{InterruptType}
 use Rattle.uart_spec.specs.declared.registers.interrupt_type.InterruptType.TheVariants as interrupts
 use Rattle.uart_spec.specs.declared.registers.line_control.TheConstants.LCR
 use Rattle.uart_spec.specs.declared.registers.line_status.TheConstants.LSR
 use Rattle.uart_spec.specs.declared.registers.offsets.TheConstants as offsets
-use Rattle.uart_events.specs.declared.event.Chip.{Chip}
-use Rattle.uart_events.specs.declared.event.Chip.TheVariants.{Uart16550A, Uart16450}
-use Rattle.uart_chip.specs.declared.transmitter.Shifting.{Shifting}
-use Rattle.uart_chip.specs.Masks.{ier_bits}
-use Rattle.uart_chip.specs.Receiver.{report}
 use Rattle.uart_chip.specs.Transmitter as transmitter
-use Rattle.uart_chip.specs.Transmitter.{TransmitterState, shift, refill, load, room}
-use Rattle.uart_chip.specs.Chip.{ChipState, cut_of, is_dlab_set, interrupt, is_thr_empty}
-use Rattle.uart_chip.specs.Chip.{after_read, enable, with_thr_pending}
-use Rattle.uart_chip.proofs.FifoBits.{isr_of}
-use Rattle.uart_chip.specs.Machine.{MachineState, MachineStep, at_access, at_mark}
-use Rattle.uart_chip.proofs.Sizes.{at_least_16}
-use Rattle.uart_chip.proofs.Bits.{has_one, has_and}
-use Rattle.uart_chip.proofs.conservation.BlockLaws.{look_room}
-use Rattle.uart_chip.proofs.lasting.Lasting.{either, lasts-before, lasts-before_mark}
-use Rattle.uart_run.proofs.initialising.FifoShown.{shows_64}
-use Rattle.uart_run.proofs.Latches.{Kept, keep_control, keep_write, kept_in, kept_access, kept_step, kept-before_mark}
-use Rattle.uart_ring.specs.Armed.{ThrEmpty, shows_thr_empty, due_after_read, known_after, known_after_all, IsTrueOfIer, KeepsIer}
-use Rattle.uart_ring_runs.specs.RingArmed.{is_due, thr_empty_of}
 use Rattle.uart_ring_runs.proofs.RingBlocks.{LeavesLcr, AllLeaveLcr}
 
 -- ---- the transmitter

@@ -1,40 +1,20 @@
 -- That `handle` and `retrigger` lose no edge of the interrupt line.
-use Rattle.std.proofs.Common.{◌≡◌, ◌⊎◌, ◌<◌, arith, ℕ, Bool, true, false, List, [], ◌∷◌, ◌++◌, inl, inr, refl, sym, ◌∙◌, ap, subst}
-use Rattle.std.proofs.Common.{Option, Some, None, Result, Ok, Err, MatchBool, suc, nat_lt}
-use Rattle.std.specs.Prelude.{is_some, MatchOption}
-use lib.Bits.{and_zero_r}
-use Rattle.std.proofs.lemmas.Bool.{false≢true}
-use Rattle.uart_spec.specs.Access.{Path}
-use Rattle.uart_spec.specs.declared.access.Access.{Access}
-use Rattle.uart_spec.specs.declared.access.Access.TheVariants.{Read, Write}
-use Rattle.uart_spec.specs.Bits.{has, IsOnlyIfAny}
-use Rattle.uart_spec.specs.Fields.{Identifies}
+use Rattle.uart_ring_runs.proofs.Names.{◌≡◌, ◌⊎◌, ◌<◌, arith, ℕ, Bool, true, false, List, [], ◌∷◌, ◌++◌, inl, inr, refl, sym, ◌∙◌, ap}
+use Rattle.uart_ring_runs.proofs.Names.{subst, Option, Some, None, Result, Ok, Err, MatchBool, suc, nat_lt, is_some, MatchOption}
+use Rattle.uart_ring_runs.proofs.Names.{and_zero_r, false≢true, Path, Access, Read, Write, has, IsOnlyIfAny, Identifies, InterruptType}
+use Rattle.uart_ring_runs.proofs.Names.{Fields, ChipState, interrupt, enable, isr_of, MachineState, MachineStep, at_access, RingDoing}
+use Rattle.uart_ring_runs.proofs.Names.{RingDid, RingFields, RingNext, RingTimes, RingSets, with_rounds, every_bit, TurnsOff, LooksOnceMore}
+use Rattle.uart_ring_runs.proofs.Names.{CountsUnfinished, CountsRound, HandlesRound, StaysStuck, TriesToHandle, unless_stuck, counts_as}
+use Rattle.uart_ring_runs.proofs.Names.{has_moved, round_limit, StuckError, ServesOne, Stops, IsWithin, Services, MAX_INTERRUPTS}
+use Rattle.uart_ring_runs.proofs.Names.{Retriggers, RetriggersUnlessIdle, Handles, HandleEnd, Idle, Unknown, Limit, Handled, RingState}
+use Rattle.uart_ring_runs.proofs.Names.{ring_machine, RingLink, RingChain, path_as, shows_64, rid_of}
 use Rattle.uart_spec.specs.declared.registers.interrupt_status.TheConstants.ISR
-use Rattle.uart_spec.specs.declared.registers.interrupt_type.InterruptType.{InterruptType}
 use Rattle.uart_spec.specs.declared.registers.interrupt_type.InterruptType.TheVariants as interrupts
 use Rattle.uart_spec.specs.declared.registers.offsets.TheConstants as offsets
 use Rattle.uart_16550.specs.Status as status
-use Rattle.uart_16550.specs.Driver.{Fields}
-use Rattle.uart_chip.specs.Chip.{ChipState, interrupt, enable}
-use Rattle.uart_chip.proofs.FifoBits.{isr_of}
-use Rattle.uart_chip.specs.Machine.{MachineState, MachineStep, at_access}
-use Rattle.uart_ring.specs.Ring.{RingDoing, RingDid, RingFields, RingNext, RingTimes, RingSets, with_rounds}
-use Rattle.uart_ring.specs.Storm.{every_bit, TurnsOff, LooksOnceMore, CountsUnfinished, CountsRound, HandlesRound, StaysStuck}
-use Rattle.uart_ring.specs.Storm.{TriesToHandle, unless_stuck, counts_as, has_moved, round_limit}
-use Rattle.uart_ring.specs.declared.ring.storm.StuckError.{StuckError}
-use Rattle.uart_ring.specs.Service.{ServesOne, Stops, IsWithin, Services}
-use Rattle.uart_ring.specs.declared.ring.service.TheConstants.{MAX_INTERRUPTS}
-use Rattle.uart_ring.specs.Handle.{Retriggers, RetriggersUnlessIdle, Handles}
 use Rattle.uart_ring_runs.specs.Edges.{is_line_up, IsDownDuring, RisesDuring, LosesNoEdge, RisesInCalls}
-use Rattle.uart_ring.specs.declared.ring.service.HandleEnd.{HandleEnd}
-use Rattle.uart_ring.specs.declared.ring.service.HandleEnd.TheVariants.{Idle, Unknown, Limit}
-use Rattle.uart_ring.specs.declared.ring.service.Handled.{Handled}
-use Rattle.uart_ring_runs.specs.RingRun.{RingState, ring_machine, RingLink, RingChain}
-use Rattle.uart_chip.proofs.conservation.BlockLaws.{path_as}
-use Rattle.uart_run.proofs.initialising.FifoShown.{shows_64}
 use Rattle.uart_ring_runs.proofs.RingWalk as walk
 use Rattle.uart_ring_runs.proofs.RingBlocks.{AllLeaveLcr, MakesBlocks, in_blocks}
-use Rattle.uart_ring.proofs.Pausing.{rid_of}
 use Rattle.uart_ring.proofs.RingDoings.{then_later}
 use Rattle.uart_ring_runs.proofs.RingDue.{IsDlabOff, off_access, off_step}
 

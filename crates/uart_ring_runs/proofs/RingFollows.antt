@@ -1,53 +1,24 @@
 -- What each call of a run of rings keeps, in a session or not. A call of the driver is a run without rings of one call, and so is `next`.
-use Rattle.std.proofs.Common.{◌≡◌, ◌==◌, Bool, true, false, List, [], ◌∷◌, Option, Some, None, refl, sym, ◌∙◌, ap, subst}
-use Rattle.uart_spec.specs.Access.{Path}
-use Rattle.uart_spec.specs.Bits.{has}
-use Rattle.uart_spec.specs.declared.access.Access.{Access}
-use Rattle.uart_spec.specs.declared.access.Access.TheVariants.{Read, Write}
+use Rattle.uart_ring_runs.proofs.Names.{◌≡◌, Bool, true, false, List, [], ◌∷◌, Option, Some, None, refl, sym, ◌∙◌, ap, subst, Path, has}
+use Rattle.uart_ring_runs.proofs.Names.{Access, Read, Write, settings_of, switched, unlooped, Settings, Call, Answer, Done, MachineStep}
+use Rattle.uart_ring_runs.proofs.Names.{IsSound, same_pace, calls_of, answers_of, IsTimely, IsUnchecked, BurstsFit, Ready, State}
+use Rattle.uart_ring_runs.proofs.Names.{machine_of, CallStep, Link, Chain, IsRun, Follows, AllFollow, unlooped_off, ready_by, kept_list}
+use Rattle.uart_ring_runs.proofs.Names.{NeverWrites, blocks_never, unwritten, modes_of, in_session, fits_by, RingFields, ring_fields, free}
+use Rattle.uart_ring_runs.proofs.Names.{MakesRtsIfAny, rts_at, adjusts_lose_nothing, RingCall, RingAnswer, RingFollows, RingState, under}
+use Rattle.uart_ring_runs.proofs.Names.{ring_machine, DriverCalled, RingGoesOn, RingCallStep, RingLink, RingChain, IsWithinRingSession}
+use Rattle.uart_ring_runs.proofs.Names.{AllRingFollow, lasts_sound}
 use Rattle.uart_spec.specs.declared.registers.modem_control.TheConstants.MCR
 use Rattle.uart_spec.specs.declared.registers.offsets.TheConstants as offsets
-use Rattle.uart_16550.specs.Driver.{settings_of}
-use Rattle.uart_16550.specs.Frame.{switched, unlooped}
-use Rattle.uart_16550.specs.Grammar.{Settings}
-use Rattle.uart_events.specs.declared.call.Call.{Call}
 use Rattle.uart_events.specs.declared.call.Call.TheVariants as driver
-use Rattle.uart_events.specs.declared.call.Answer.{Answer}
-use Rattle.uart_events.specs.declared.call.Answer.TheVariants.{Done}
-use Rattle.uart_chip.specs.Machine.{MachineStep}
-use Rattle.uart_chip.specs.Sound.{IsSound}
 use Rattle.uart_chip.specs.Switching.{SameSizes}
-use Rattle.uart_chip.proofs.lasting.Constants.{same_pace}
 use Rattle.uart_chip.proofs.lasting.FifoSizes.{same_size}
 use Rattle.uart_chip.proofs.lasting.Flows.{flow-path}
-use Rattle.uart_run.specs.Chains.{calls_of, answers_of}
-use Rattle.uart_run.specs.Progress.{IsTimely, IsUnchecked}
-use Rattle.uart_run.specs.Ready.{BurstsFit, Ready}
-use Rattle.uart_run.specs.Run.{State, machine_of, CallStep, Link, Chain, IsRun}
-use Rattle.uart_run.specs.Session.{Follows, AllFollow}
-use Rattle.uart_run.proofs.FrameLaws.{unlooped_off}
 use Rattle.uart_run.proofs.Follows.{ran}
-use Rattle.uart_run.proofs.initialising.Initialised.{ready_by}
-use Rattle.uart_run.proofs.Latches.{kept_list}
-use Rattle.uart_run.proofs.NeverSwitched.{NeverWrites, blocks_never, unwritten}
 use Rattle.uart_run.proofs.progress.Nearing.{ticked-path}
-use Rattle.uart_run.proofs.SessionCalls.{modes_of, in_session}
-use Rattle.uart_run.proofs.SizeKept.{fits_by}
-use Rattle.uart_ring.specs.Ring.{RingFields, ring_fields, free}
-use Rattle.uart_ring.specs.Receive.{MakesRtsIfAny, rts_at}
-use Rattle.uart_ring.proofs.Losses.{adjusts_lose_nothing}
-use Rattle.uart_ring_runs.specs.declared.call.RingCall.{RingCall}
 use Rattle.uart_ring_runs.specs.declared.call.RingCall.TheVariants as call
-use Rattle.uart_ring_runs.specs.declared.call.RingAnswer.{RingAnswer}
-use Rattle.uart_ring_runs.specs.RingFollows.{RingFollows}
-use Rattle.uart_ring_runs.specs.RingRun.{RingState, under, ring_machine, DriverCalled, RingGoesOn, RingCallStep, RingLink, RingChain}
-use Rattle.uart_ring_runs.specs.RingSession.{IsWithinRingSession, AllRingFollow}
-use Rattle.uart_ring_runs.proofs.RingArming.{ready_in}
-use Rattle.uart_ring_runs.proofs.RingBlocks.{MakesBlocks, in_blocks}
-use Rattle.uart_ring_runs.proofs.RingGoes.{ring_goes_call, in_session-gone}
-use Rattle.uart_ring_runs.proofs.RingLasts.{driver_step, ring_lasts_call}
-use Rattle.uart_ring_runs.proofs.RingMeanings.{IsUsual, meaning_of}
-use Rattle.uart_ring_runs.proofs.RingRts.{rts_accesses, rts_leaves}
-use Rattle.uart_run.proofs.Sessions.{lasts_sound}
+use Rattle.uart_ring_runs.proofs.{RingArming.ready_in, RingBlocks.MakesBlocks, RingBlocks.in_blocks, RingGoes.ring_goes_call}
+use Rattle.uart_ring_runs.proofs.{RingGoes.in_session-gone, RingLasts.driver_step, RingLasts.ring_lasts_call, RingMeanings.IsUsual}
+use Rattle.uart_ring_runs.proofs.{RingMeanings.meaning_of, RingRts.rts_accesses, RingRts.rts_leaves}
 
 -- ---- a call of the driver, and `next`
 

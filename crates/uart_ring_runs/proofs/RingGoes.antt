@@ -1,49 +1,24 @@
 -- What the calls of a session of rings do in turn: those of the rings themselves, and those of the driver under them.
-use Rattle.std.proofs.Common.{◌≡◌, ◌≢◌, ◌⊎◌, ℕ, Bool, List, [], ◌∷◌, ◌++◌, append_assoc, append-nil, inl, inr, Ok, Err, refl, sym, ◌∙◌}
-use Rattle.std.proofs.Common.{ap, subst, bit_and, bit_or, Result}
-use lib.Bits.{or_zero_r}
-use Rattle.uart_spec.specs.Access.{saved_lsr, saved_msr}
-use Rattle.uart_spec.specs.declared.access.Access.{Access}
+use Rattle.uart_ring_runs.proofs.Names.{◌≡◌, ◌≢◌, ◌⊎◌, ℕ, Bool, List, [], ◌∷◌, ◌++◌, append_assoc, append-nil, inl, inr, Ok, Err, refl, sym}
+use Rattle.uart_ring_runs.proofs.Names.{◌∙◌, ap, subst, bit_and, bit_or, Result, or_zero_r, saved_lsr, saved_msr, Access, FifosOffError}
+use Rattle.uart_ring_runs.proofs.Names.{FifoTriggerLevel, Settings, Fields, fields, SetsTrigger, inner_of, Call, Answer, MachineStep}
+use Rattle.uart_ring_runs.proofs.Names.{or_assoc, Modes, fixed, passed-refl, IsOpen, PassedBlocks, stands-after, BurstsFit, State, CallStep}
+use Rattle.uart_ring_runs.proofs.Names.{GoesOn, IsWithinSession, reported_by, received_by, keeps_size, fits_by, fits_kept, InSession}
+use Rattle.uart_ring_runs.proofs.Names.{session_closed, GoOn, go_within, passed_onwards, same_fifo, RingFields, ring_fields, waiting}
+use Rattle.uart_ring_runs.proofs.Names.{data_written, data_read, RingCall, RingAnswer, RingState, under, ring_machine, DriverCalled}
+use Rattle.uart_ring_runs.proofs.Names.{IsOfRings, RingCallStep, RingLink, RingChain, to_send, to_take, queued_by, taken_by, queued, taken}
+use Rattle.uart_ring_runs.proofs.Names.{gone_in, gone_by, gone, KeepsOrder, AllKeepOrder, ReceivesNothing, TakesInTurn, AllTakeInTurn}
+use Rattle.uart_ring_runs.proofs.Names.{IsWithinRingSession, AllWithinRingSession, NeitherIs, NoneIs}
 use Rattle.uart_spec.specs.declared.errors.AttachError.{AttachError}
 use Rattle.uart_spec.specs.declared.errors.AttachError.TheVariants.{DivisorLatchOpen}
-use Rattle.uart_spec.specs.declared.errors.FifosOffError.{FifosOffError}
-use Rattle.uart_spec.specs.declared.registers.fifo_trigger_level.FifoTriggerLevel.{FifoTriggerLevel}
 use Rattle.uart_spec.specs.declared.registers.line_status.TheConstants.LSR
 use Rattle.uart_spec.specs.declared.registers.modem_status.TheConstants.MSR
-use Rattle.uart_16550.specs.Grammar.{Settings}
-use Rattle.uart_16550.specs.Driver.{Fields, fields}
 use Rattle.uart_16550.specs.Attach.{Attaches}
-use Rattle.uart_16550.specs.Setup.{SetsTrigger}
-use Rattle.uart_16550.specs.Tty.{inner_of}
-use Rattle.uart_events.specs.declared.call.Call.{Call}
 use Rattle.uart_events.specs.declared.call.Call.TheVariants as driver
-use Rattle.uart_events.specs.declared.call.Answer.{Answer}
-use Rattle.uart_chip.specs.Machine.{MachineStep}
-use Rattle.uart_chip.proofs.Bits.{or_assoc}
-use Rattle.uart_chip.proofs.conservation.Went.{Modes, fixed}
-use Rattle.uart_chip.proofs.conservation.Passed.{passed-refl}
-use Rattle.uart_chip.proofs.conservation.BlockLaws.{IsOpen, PassedBlocks, stands-after}
-use Rattle.uart_run.specs.Ready.{BurstsFit}
-use Rattle.uart_run.specs.Run.{State, CallStep}
-use Rattle.uart_run.specs.Session.{GoesOn, IsWithinSession, reported_by, received_by}
-use Rattle.uart_run.proofs.SizeKept.{keeps_size, fits_by, fits_kept}
-use Rattle.uart_run.proofs.CallLaws.{InSession, session_closed}
-use Rattle.uart_run.proofs.FrameLaws.{GoOn, go_within, passed_onwards, same_fifo}
-use Rattle.uart_ring.specs.Ring.{RingFields, ring_fields, waiting}
-use Rattle.uart_ring.specs.Lossless.{data_written, data_read}
 use Rattle.uart_ring.proofs.RegisterBits.{more_saved, saved_lsr-append, saved_lsr-within, saved_msr-append, saved_msr-within}
-use Rattle.uart_ring_runs.specs.declared.call.RingCall.{RingCall}
 use Rattle.uart_ring_runs.specs.declared.call.RingCall.TheVariants as call
-use Rattle.uart_ring_runs.specs.declared.call.RingAnswer.{RingAnswer}
-use Rattle.uart_ring_runs.specs.RingRun.{RingState, under, ring_machine, DriverCalled, IsOfRings, RingCallStep, RingLink, RingChain}
-use Rattle.uart_ring_runs.specs.RingBytes.{to_send, to_take, queued_by, taken_by, queued, taken, gone_in, gone_by, gone}
-use Rattle.uart_ring_runs.specs.RingBytes.{KeepsOrder, AllKeepOrder, ReceivesNothing, TakesInTurn, AllTakeInTurn}
-use Rattle.uart_ring_runs.specs.RingSession.{IsWithinRingSession, AllWithinRingSession}
-use Rattle.uart_ring_runs.specs.RingStatuses.{NeitherIs}
-use Rattle.uart_run.specs.Chains.{NoneIs}
-use Rattle.uart_ring_runs.proofs.RingMeanings.{in_order}
-use Rattle.uart_ring_runs.proofs.RingLasts.{driver_step, first_within}
-use Rattle.uart_ring_runs.proofs.RingRts.{modes_at, begins_session}
+use Rattle.uart_ring_runs.proofs.{RingMeanings.in_order, RingLasts.driver_step, RingLasts.first_within, RingRts.modes_at}
+use Rattle.uart_ring_runs.proofs.{RingRts.begins_session}
 use Rattle.uart_ring_runs.proofs.RingPasses.{RingPasses, InLine, ring_passes_call, untold_line_of, untold_modem_of}
 
 -- whether the driver of the rings checks CTS

@@ -1,20 +1,11 @@
 -- What every ring call keeps of the machine: soundness, and that it is wired.
-use Rattle.std.proofs.Common.{List, [], ◌∷◌, ◌++◌, sym, subst}
-use Rattle.uart_16550.specs.Tty.{inner_of}
-use Rattle.uart_events.specs.declared.call.Call.{Call}
+use Rattle.uart_ring_runs.proofs.Names.{List, [], ◌∷◌, ◌++◌, sym, subst, inner_of, Call, Answer, MachineState, MachineStep, State, CallStep}
+use Rattle.uart_ring_runs.proofs.Names.{IsWired, chain_keeps, Lasts, goes_on, lasts_call, lasts_wired, RingCall, RingAnswer, RingState}
+use Rattle.uart_ring_runs.proofs.Names.{under, ring_machine, IsOfRings, DriverCalled, RingCallStep, RingLink, RingChain}
+use Rattle.uart_ring_runs.proofs.Names.{IsWithinRingSession, AllWithinRingSession}
 use Rattle.uart_events.specs.declared.call.Call.TheVariants as driver
-use Rattle.uart_events.specs.declared.call.Answer.{Answer}
 use Rattle.uart_calls.specs.Meaning.{Called, IsOfDriver, meaning}
-use Rattle.uart_chip.specs.Machine.{MachineState, MachineStep}
-use Rattle.uart_run.specs.Run.{State, CallStep}
-use Rattle.uart_run.specs.Wired.{IsWired}
-use Rattle.uart_run.proofs.Chains.{chain_keeps}
-use Rattle.uart_run.proofs.Sessions.{Lasts, goes_on, lasts_call, lasts_wired}
-use Rattle.uart_ring_runs.specs.declared.call.RingCall.{RingCall}
 use Rattle.uart_ring_runs.specs.declared.call.RingCall.TheVariants as call
-use Rattle.uart_ring_runs.specs.declared.call.RingAnswer.{RingAnswer}
-use Rattle.uart_ring_runs.specs.RingRun.{RingState, under, ring_machine, IsOfRings, DriverCalled, RingCallStep, RingLink, RingChain}
-use Rattle.uart_ring_runs.specs.RingSession.{IsWithinRingSession, AllWithinRingSession}
 
 -- a call of the driver under the rings is one of a run without them
 as_step : (s t : State) (c : Call) (a : Answer) → IsOfDriver c → Called MachineStep (meaning c) a (inner_of s) (inner_of t) →

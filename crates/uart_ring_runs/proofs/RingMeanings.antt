@@ -1,32 +1,17 @@
 -- What each call of the rings does, in one place: it is made of doings of the driver, it loses nothing, and it leaves the rings armed.
-use Rattle.std.proofs.Common.{◌≡◌, ◌≢◌, ◌<◌, ◌==◌, ℕ, Bool, true, false, not, Option, Some, None, List, [], ◌++◌, append-nil, length}
-use Rattle.std.proofs.Common.{length-take, refl, sym, arith}
-use Rattle.std.specs.Prelude.{⊤, MatchBool}
-use Rattle.uart_spec.specs.Access.{Path}
-use Rattle.uart_spec.specs.declared.access.Access.{Access}
-use Rattle.uart_16550.specs.Driver.{Doing}
-use Rattle.uart_events.specs.declared.call.Call.{Call}
+use Rattle.uart_ring_runs.proofs.Names.{◌≡◌, ◌≢◌, ◌<◌, ◌==◌, ℕ, Bool, true, false, not, Option, Some, None, List, [], ◌++◌, append-nil}
+use Rattle.uart_ring_runs.proofs.Names.{length, length-take, refl, sym, arith, ⊤, MatchBool, Path, Access, Doing, Call, Answer, reported_by}
+use Rattle.uart_ring_runs.proofs.Names.{RingDoing, RingDid, ring_fields, ring_backend_of, with_told_xoff, looked, flow_character}
+use Rattle.uart_ring_runs.proofs.Names.{TellsIfAny, AdjustsXoff, xon, Obeys, ObeysXoff, Holds, Releases, ReceiveMarks, LosesOnly, Implies}
+use Rattle.uart_ring_runs.proofs.Names.{LeavesArmed, Arms, RingCall, RingAnswer, RingPerformed, queued_by, gone_in, to_send_with}
+use Rattle.uart_ring_runs.proofs.Names.{KeepsOrder, SendsNothing, RearmsRing, IsPlain}
 use Rattle.uart_events.specs.declared.call.Call.TheVariants as driver
-use Rattle.uart_events.specs.declared.call.Answer.{Answer}
-use Rattle.uart_run.specs.Session.{reported_by}
-use Rattle.uart_ring.specs.Ring.{RingDoing, RingDid, ring_fields, ring_backend_of, with_told_xoff, looked}
-use Rattle.uart_ring.specs.Receive.{flow_character, TellsIfAny, AdjustsXoff, xon, Obeys, ObeysXoff}
-use Rattle.uart_ring.specs.Transmit.{Holds, Releases}
-use Rattle.uart_ring.specs.declared.ring.receive.ReceiveMarks.{ReceiveMarks}
 use Rattle.uart_ring.specs.declared.ring.Uart16550Ring.{Uart16550Ring}
-use Rattle.uart_ring.specs.Lossless.{LosesOnly, Implies}
-use Rattle.uart_ring.specs.Armed.{LeavesArmed, Arms}
 use Rattle.uart_ring.proofs.Arming as arming
 use Rattle.uart_ring.proofs.Losses as losses
 use Rattle.uart_ring.proofs.Rts.{at_marks, adjusts_xoff_loses_only, adjusts_xoff_leave, obeys_xoff_loses_nothing, obeys_xoff_leave}
-use Rattle.uart_ring_runs.specs.declared.call.RingCall.{RingCall}
 use Rattle.uart_ring_runs.specs.declared.call.RingCall.TheVariants as call
-use Rattle.uart_ring_runs.specs.declared.call.RingAnswer.{RingAnswer}
 use Rattle.uart_ring_runs.specs.declared.call.RingAnswer.TheVariants as answers
-use Rattle.uart_ring_runs.specs.RingRun.{RingPerformed}
-use Rattle.uart_ring_runs.specs.RingBytes.{queued_by, gone_in, to_send_with, KeepsOrder, SendsNothing}
-use Rattle.uart_ring_runs.specs.RingArmed.{RearmsRing}
-use Rattle.uart_ring_runs.specs.RingPlain.{IsPlain}
 use Rattle.uart_ring_runs.proofs.RingWalk as walk
 use Rattle.uart_ring_runs.proofs.RingWalk.{Walks, InRings}
 

@@ -1,17 +1,8 @@
 -- Calls of the rings themselves meet each condition that a session has because of calls of the driver.
-use Rattle.std.proofs.Common.{ℕ, List, [], ◌∷◌, subst}
-use Rattle.std.specs.Prelude.{All}
-use Rattle.std.proofs.lemmas.List.Elements.{All-head, All-tail}
-use Rattle.uart_events.specs.declared.call.Call.{Call}
-use Rattle.uart_run.specs.Chains.{NoneIs, calls_of}
-use Rattle.uart_run.specs.Wired.{IsWired}
-use Rattle.uart_ring_runs.specs.declared.call.RingCall.{RingCall}
+use Rattle.uart_ring_runs.proofs.Names.{ℕ, List, [], ◌∷◌, subst, All, All-head, All-tail, Call, NoneIs, calls_of, IsWired, RingCall}
+use Rattle.uart_ring_runs.proofs.Names.{RingState, under, IsOfRings, RingLink, to_take, TakesInTurn, AllTakeInTurn, KeepsArmed, NeitherIs}
+use Rattle.uart_ring_runs.proofs.Names.{AllWithinRingSession}
 use Rattle.uart_ring_runs.specs.declared.call.RingCall.TheVariants as call
-use Rattle.uart_ring_runs.specs.RingRun.{RingState, under, IsOfRings, RingLink}
-use Rattle.uart_ring_runs.specs.RingBytes.{to_take, TakesInTurn, AllTakeInTurn}
-use Rattle.uart_ring_runs.specs.RingArmed.{KeepsArmed}
-use Rattle.uart_ring_runs.specs.RingStatuses.{NeitherIs}
-use Rattle.uart_ring_runs.specs.RingSession.{AllWithinRingSession}
 use Rattle.uart_ring_runs.proofs.RingLasts.{wired_call}
 
 -- from a wired machine they go on with a session

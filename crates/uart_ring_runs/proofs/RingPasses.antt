@@ -1,27 +1,13 @@
 -- What each call of the rings themselves does in a session.
-use Rattle.std.proofs.Common.{◌≡◌, ◌≢◌, ℕ, List, [], ◌++◌, append-nil, take, refl, sym, ◌∙◌, ap, bit_and, bit_or}
-use lib.Bits.{or_zero_r}
-use Rattle.uart_spec.specs.Access.{saved_lsr, saved_msr}
-use Rattle.uart_spec.specs.declared.access.Access.{Access}
+use Rattle.uart_ring_runs.proofs.Names.{◌≡◌, ◌≢◌, ℕ, List, [], ◌++◌, append-nil, refl, sym, ◌∙◌, ap, bit_and, bit_or, or_zero_r, saved_lsr}
+use Rattle.uart_ring_runs.proofs.Names.{saved_msr, Access, settings_of, MachineStep, Modes, passed-mark, IsOpen, PassedBlocks, RingFields}
+use Rattle.uart_ring_runs.proofs.Names.{ring_fields, free, waiting, rts_at, data_written, data_read, untold_line, untold_modem, LosesOnly}
+use Rattle.uart_ring_runs.proofs.Names.{with_accepted, adjusts_lose_nothing, RingCall, RingAnswer, RingState, ring_machine, IsOfRings}
+use Rattle.uart_ring_runs.proofs.Names.{RingCallStep, to_send, to_take, gone_in, to_send_with, IsWithinRingSession}
 use Rattle.uart_spec.specs.declared.registers.line_status.TheConstants.LSR
 use Rattle.uart_spec.specs.declared.registers.modem_status.TheConstants.MSR
-use Rattle.uart_16550.specs.Driver.{settings_of}
-use Rattle.uart_chip.specs.Machine.{MachineStep}
-use Rattle.uart_chip.proofs.conservation.Went.{Modes}
-use Rattle.uart_chip.proofs.conservation.Passed.{passed-mark}
-use Rattle.uart_chip.proofs.conservation.BlockLaws.{IsOpen, PassedBlocks}
-use Rattle.uart_ring.specs.Ring.{RingFields, ring_fields, free, waiting}
-use Rattle.uart_ring.specs.Receive.{rts_at}
-use Rattle.uart_ring.specs.Lossless.{data_written, data_read, untold_line, untold_modem, LosesOnly, with_accepted}
-use Rattle.uart_ring.proofs.Losses.{adjusts_lose_nothing}
-use Rattle.uart_ring_runs.specs.declared.call.RingCall.{RingCall}
 use Rattle.uart_ring_runs.specs.declared.call.RingCall.TheVariants as call
-use Rattle.uart_ring_runs.specs.declared.call.RingAnswer.{RingAnswer}
-use Rattle.uart_ring_runs.specs.RingRun.{RingState, ring_machine, IsOfRings, RingCallStep}
-use Rattle.uart_ring_runs.specs.RingBytes.{to_send, to_take, gone_in, to_send_with}
-use Rattle.uart_ring_runs.proofs.RingBlocks.{MakesBlocks, in_blocks}
-use Rattle.uart_ring_runs.proofs.RingMeanings.{Meant, meaning_of}
-use Rattle.uart_ring_runs.specs.RingSession.{IsWithinRingSession}
+use Rattle.uart_ring_runs.proofs.{RingBlocks.MakesBlocks, RingBlocks.in_blocks, RingMeanings.Meant, RingMeanings.meaning_of}
 use Rattle.uart_ring_runs.proofs.RingRts.{modes_at, InRingSession, Came, came, came_blocks, came_rts}
 
 -- what is still to be told of LSR and MSR

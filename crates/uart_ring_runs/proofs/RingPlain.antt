@@ -1,40 +1,22 @@
 -- That rings which only queue, serve and take are two queues.
-use Rattle.std.proofs.Common.{◌≡◌, ◌⊎◌, ℕ, zero, suc, Bool, true, false, List, [], ◌∷◌, ◌++◌, inl, inr, refl, sym, ◌∙◌, ap}
-use Rattle.std.proofs.Common.{subst, map, length, take, Option, None, Some, option_to_list}
-use Rattle.std.specs.List.{AllByRecursion}
+use Rattle.uart_ring_runs.proofs.Names.{◌≡◌, ◌⊎◌, ℕ, zero, suc, Bool, true, false, List, [], ◌∷◌, ◌++◌, inl, inr, refl, sym, ◌∙◌, ap, subst}
+use Rattle.uart_ring_runs.proofs.Names.{map, length, take, Option, None, Some, option_to_list, AllByRecursion, InterruptType, Uart16550}
+use Rattle.uart_ring_runs.proofs.Names.{cut_of, out, MachineState, NoneIs, RingDoing, RingFields, RingTimes, IfAny, AreEmpty, ring_fields}
+use Rattle.uart_ring_runs.proofs.Names.{is_full, urgent_left, allowed, unless_held, sendable, with_queued, with_hold, without_taken, free}
+use Rattle.uart_ring_runs.proofs.Names.{Pumps, Queues, ResumesTransmit, Releases, SetsLowMark, TakesLow, PausesIfFull, FillsReceiveRing}
+use Rattle.uart_ring_runs.proofs.Names.{EndsPause, TakesBytes, rts_at, MakesRtsIfAny, AdjustsRts, ReceiveMarks, ServesInterrupt, ServesOne}
+use Rattle.uart_ring_runs.proofs.Names.{Stops, ServesUpTo, Services, Retriggers, RetriggersUnlessIdle, Handles, TakesLine, TakesModem}
+use Rattle.uart_ring_runs.proofs.Names.{Restarts, Implies, HandleEnd, Idle, Unknown, Limit, Handled, Pausing, joined_with, rid_of, RingCall}
+use Rattle.uart_ring_runs.proofs.Names.{RingAnswer, RingState, ring_machine, RingCallStep, RingLink, RingChain, to_send, to_take, queued}
+use Rattle.uart_ring_runs.proofs.Names.{AllKeepOrder, TakesInTurn, AllTakeInTurn, thr_empty_of, IsRingArmed, KeepsArmed, AllLeaveRingArmed}
+use Rattle.uart_ring_runs.proofs.Names.{RingConserves, AreUntold, IsPlain, ArePlain, in_transmit_ring, IsEmptyOrDue, AllLeaveEmptyOrDue}
+use Rattle.uart_ring_runs.proofs.Names.{ConservesPlainly}
 use Rattle.uart_spec.specs.declared.registers.interrupt_enable.TheConstants.IER
-use Rattle.uart_spec.specs.declared.registers.interrupt_type.InterruptType.{InterruptType}
 use Rattle.uart_spec.specs.declared.registers.interrupt_type.InterruptType.TheVariants as interrupts
-use Rattle.uart_16550.specs.declared.driver.Uart16550.{Uart16550}
-use Rattle.uart_chip.specs.Chip.{cut_of}
-use Rattle.uart_chip.specs.Conserved.{out, waiting}
-use Rattle.uart_chip.specs.Machine.{MachineState}
-use Rattle.uart_run.specs.Chains.{NoneIs}
-use Rattle.uart_ring.specs.Ring.{RingDoing, RingFields, RingTimes, IfAny, AreEmpty, ring_fields, is_full, urgent_left, allowed, unless_held}
-use Rattle.uart_ring.specs.Ring.{sendable, with_queued, with_hold, without_taken, free}
+use Rattle.uart_chip.specs.Conserved.{waiting}
 use Rattle.uart_ring.specs.Ring as ring
-use Rattle.uart_ring.specs.Transmit.{Pumps, Queues, ResumesTransmit, Releases, SetsLowMark, TakesLow}
-use Rattle.uart_ring.specs.Receive.{PausesIfFull, FillsReceiveRing, EndsPause, TakesBytes, rts_at, MakesRtsIfAny, AdjustsRts}
-use Rattle.uart_ring.specs.declared.ring.receive.ReceiveMarks.{ReceiveMarks}
-use Rattle.uart_ring.specs.Service.{ServesInterrupt, ServesOne, Stops, ServesUpTo, Services}
-use Rattle.uart_ring.specs.Handle.{Retriggers, RetriggersUnlessIdle, Handles}
-use Rattle.uart_ring.specs.Status.{TakesLine, TakesModem}
-use Rattle.uart_ring.specs.Storm.{Restarts}
-use Rattle.uart_ring.specs.Lossless.{Implies}
-use Rattle.uart_ring.specs.declared.ring.service.HandleEnd.{HandleEnd}
-use Rattle.uart_ring.specs.declared.ring.service.HandleEnd.TheVariants.{Idle, Unknown, Limit}
-use Rattle.uart_ring.specs.declared.ring.service.Handled.{Handled}
-use Rattle.uart_ring.proofs.Pausing.{Pausing, joined_with, rid_of}
-use Rattle.uart_ring_runs.specs.declared.call.RingCall.{RingCall}
 use Rattle.uart_ring_runs.specs.declared.call.RingCall.TheVariants as call
-use Rattle.uart_ring_runs.specs.declared.call.RingAnswer.{RingAnswer}
-use Rattle.uart_ring_runs.specs.RingRun.{RingState, ring_machine, RingCallStep, RingLink, RingChain}
-use Rattle.uart_ring_runs.specs.RingBytes.{to_send, to_take, queued, AllKeepOrder, TakesInTurn, AllTakeInTurn}
-use Rattle.uart_ring_runs.specs.RingArmed.{thr_empty_of, IsRingArmed, KeepsArmed, AllLeaveRingArmed}
-use Rattle.uart_ring_runs.specs.RingSession.{RingConserves}
 use Rattle.uart_ring_runs.proofs.RingMeanings.{keeps_order}
-use Rattle.uart_ring_runs.specs.RingPlain.{AreUntold, IsPlain, ArePlain, in_transmit_ring, IsEmptyOrDue, AllLeaveEmptyOrDue}
-use Rattle.uart_ring_runs.specs.RingPlain.{ConservesPlainly}
 
 -- ---- what keeps rings untold
 

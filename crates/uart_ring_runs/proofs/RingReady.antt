@@ -1,23 +1,9 @@
 -- After an `init` a session of ring calls may begin.
-use Rattle.std.proofs.Common.{◌≡◌, false, Ok, refl, sym, ◌∙◌, subst}
-use Rattle.uart_spec.specs.declared.config.Config.{Config}
-use Rattle.uart_16550.specs.Driver.{Did, backend_of}
-use Rattle.uart_16550.specs.Init.{Inits}
-use Rattle.uart_16550.specs.declared.driver.Uart16550.{Uart16550}
+use Rattle.uart_ring_runs.proofs.Names.{◌≡◌, false, Ok, refl, sym, ◌∙◌, subst, Config, Did, backend_of, Inits, Uart16550, Done}
+use Rattle.uart_ring_runs.proofs.Names.{MachineState, MachineStep, IsSound, driver_of, RingState, under, IsTimely, BurstsFit, IsInitialised}
+use Rattle.uart_ring_runs.proofs.Names.{under_terminal, State, CallStep, IsUnhindered, fits_kept, initialises}
 use Rattle.uart_events.specs.declared.call.Call.TheVariants as call
-use Rattle.uart_events.specs.declared.call.Answer.TheVariants.{Done}
-use Rattle.uart_chip.specs.Machine.{MachineState, MachineStep}
-use Rattle.uart_chip.specs.Sound.{IsSound}
-use Rattle.uart_ring.specs.Ring.{driver_of}
-use Rattle.uart_ring_runs.specs.RingRun.{RingState, under}
-use Rattle.uart_run.specs.Progress.{IsTimely}
-use Rattle.uart_run.specs.Ready.{BurstsFit, IsInitialised}
-use Rattle.uart_run.specs.ReceivedErrors.{under_terminal}
-use Rattle.uart_run.specs.Run.{State, CallStep}
-use Rattle.uart_run.specs.Unhindered.{IsUnhindered}
-use Rattle.uart_run.proofs.SizeKept.{fits_kept}
 use Rattle.uart_run.proofs.progress.Timely.{timely_kept, flow_kept}
-use Rattle.uart_run.proofs.initialising.Initialised.{initialises}
 
 pub init_leaves : (before after : Uart16550 MachineState) (config : Config) (ring : RingState) → IsSound (backend_of before) →
     Did MachineStep (Inits {T = Unit {0}} config (Ok tt)) before after → driver_of ring ≡ after → IsInitialised config (under ring)

@@ -1,29 +1,13 @@
 -- What the accesses of `adjust_rts` do in a session: they may write MCR, and so change the modes.
-use Rattle.std.proofs.Common.{◌≡◌, ◌==◌, ℕ, Bool, true, false, List, [], ◌∷◌, Option, Some, None, refl, sym, ◌∙◌, subst}
-use Rattle.uart_spec.specs.Access.{Path}
-use Rattle.uart_spec.specs.Bits.{has, has_any}
-use Rattle.uart_spec.specs.declared.access.Access.{Access}
-use Rattle.uart_spec.specs.declared.access.Access.TheVariants.{Read, Write}
+use Rattle.uart_ring_runs.proofs.Names.{◌≡◌, ◌==◌, ℕ, Bool, true, false, List, [], ◌∷◌, Option, Some, None, refl, sym, ◌∙◌, subst, Path}
+use Rattle.uart_ring_runs.proofs.Names.{has, has_any, Access, Read, Write, switched, unlooped, kept_mcr, has_not, kept_bit, MachineState}
+use Rattle.uart_ring_runs.proofs.Names.{MachineStep, at_access, Modes, loopback-in, Passed, passed-trans, IsOpen, Stands, PassedBlocks}
+use Rattle.uart_ring_runs.proofs.Names.{nothing_taken, passed_quiet, path_as, stands-after, IsWired, IsWiredChip, settings_of, most_in}
+use Rattle.uart_ring_runs.proofs.Names.{passed_in_blocks, InSession, session_room, NeverWrites, RingFields, ring_fields, write_if_other}
+use Rattle.uart_ring_runs.proofs.Names.{MakesRtsIfAny, data_written, data_read, RingState, under, ring_machine}
 use Rattle.uart_spec.specs.declared.registers.modem_control.TheConstants.MCR
 use Rattle.uart_spec.specs.declared.registers.offsets.TheConstants as offsets
-use Rattle.uart_16550.specs.Frame.{switched, unlooped}
-use Rattle.uart_chip.specs.Masks.{kept_mcr}
-use Rattle.uart_chip.proofs.Bits.{has_not}
-use Rattle.uart_chip.proofs.McrBits.{kept_bit}
-use Rattle.uart_chip.specs.Machine.{MachineState, MachineStep, at_access}
-use Rattle.uart_chip.proofs.conservation.Went.{Modes, loopback-in}
-use Rattle.uart_chip.proofs.conservation.Passed.{Passed, passed-trans}
-use Rattle.uart_chip.proofs.conservation.BlockLaws.{IsOpen, Stands, PassedBlocks, nothing_taken, passed_quiet, path_as, stands-after}
-use Rattle.uart_run.specs.Wired.{IsWired, IsWiredChip}
-use Rattle.uart_16550.specs.Driver.{settings_of}
-use Rattle.uart_run.proofs.CallBlocks.{most_in, passed_in_blocks}
-use Rattle.uart_run.proofs.CallLaws.{InSession, session_room}
-use Rattle.uart_run.proofs.NeverSwitched.{NeverWrites}
 use Rattle.uart_run.proofs.Wired.{wired_step, passed_mcr}
-use Rattle.uart_ring.specs.Ring.{RingFields, ring_fields}
-use Rattle.uart_ring.specs.Receive.{write_if_other, MakesRtsIfAny}
-use Rattle.uart_ring.specs.Lossless.{data_written, data_read}
-use Rattle.uart_ring_runs.specs.RingRun.{RingState, under, ring_machine}
 use Rattle.uart_ring_runs.proofs.RingWalk as walk
 use Rattle.uart_ring_runs.proofs.RingBlocks.{MakesRingBlocks, MakesBlocks, in_blocks}
 

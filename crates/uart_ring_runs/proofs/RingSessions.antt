@@ -1,32 +1,16 @@
 -- What a session of ring calls conserves, and runs of them.
-use Rattle.std.proofs.Common.{◌≡◌, ℕ, ◌≤◌, List, [], ◌∷◌, ◌++◌, length, take, map, sym, ◌∙◌, ap, subst, append_assoc}
-use Rattle.std.specs.List.{filter}
-use Rattle.std.proofs.lemmas.List.{map-id, map-append}
-use Rattle.uart_chip.specs.declared.receiver.Character.{Character}
-use Rattle.uart_chip.specs.Chip.{cut_of}
-use Rattle.uart_chip.specs.Sound.{IsSound}
-use Rattle.uart_chip.specs.Conserved.{out, waiting, kept, stands}
-use Rattle.uart_chip.proofs.conservation.Went.{Modes}
-use Rattle.uart_chip.proofs.conservation.SessionLaws.{received_kept}
-use Rattle.uart_run.specs.Chains.{RunOf}
+use Rattle.uart_ring_runs.proofs.Names.{◌≡◌, ℕ, ◌≤◌, List, [], ◌∷◌, ◌++◌, length, take, map, sym, ◌∙◌, ap, subst, append_assoc, filter}
+use Rattle.uart_ring_runs.proofs.Names.{map-id, map-append, Character, cut_of, IsSound, out, kept, stands, Modes, received_kept, RunOf}
+use Rattle.uart_ring_runs.proofs.Names.{run_whole, InSession, same_cut, modes_of, in_session, lasts_sound, RingCall, RingAnswer, RingState}
+use Rattle.uart_ring_runs.proofs.Names.{under, ring_machine, RingCallStep, RingLink, RingChain, to_send, to_take, queued, gone}
+use Rattle.uart_ring_runs.proofs.Names.{to_send_with, AllKeepOrder, AllTakeInTurn, ConservesBytesUncut, RingConserves, RanRing}
+use Rattle.uart_ring_runs.proofs.Names.{AllSendInLine, AllWithinRingSession}
+use Rattle.uart_chip.specs.Conserved.{waiting}
 use Rattle.uart_run.specs.Uncut.{IsUncut}
-use Rattle.uart_run.proofs.Chains.{run_whole}
-use Rattle.uart_run.proofs.CallLaws.{InSession}
-use Rattle.uart_run.proofs.FrameLaws.{same_cut}
-use Rattle.uart_run.proofs.SessionCalls.{modes_of, in_session}
-use Rattle.uart_run.proofs.Sessions.{lasts_sound}
 use Rattle.uart_run.proofs.Uncuts.{whole_cut, entered_whole}
-use Rattle.uart_ring_runs.specs.declared.call.RingCall.{RingCall}
-use Rattle.uart_ring_runs.specs.declared.call.RingAnswer.{RingAnswer}
-use Rattle.uart_ring_runs.specs.RingRun.{RingState, under, ring_machine, RingCallStep, RingLink, RingChain}
-use Rattle.uart_ring_runs.specs.RingBytes.{to_send, to_take, queued, gone, to_send_with, AllKeepOrder, AllTakeInTurn}
-use Rattle.uart_ring_runs.specs.RingSession.{ConservesBytesUncut, RingConserves, RanRing, AllSendInLine, AllWithinRingSession}
-use Rattle.uart_ring_runs.proofs.RingLasts.{first_within, ring_lasts_chain, wired_chain}
-use Rattle.uart_ring_runs.proofs.RingPasses.{InLine}
+use Rattle.uart_ring_runs.proofs.{RingLasts.first_within, RingLasts.ring_lasts_chain, RingLasts.wired_chain, RingPasses.InLine}
+use Rattle.uart_ring_runs.proofs.{RingTold.ring_tells, RingArming.ready_in, RingArming.chain_leaves, RingFollows.ring_follow_chain}
 use Rattle.uart_ring_runs.proofs.RingGoes.{RingGoes, ring_goes_call, ring_goes_chain, in_session-gone, gone_taken}
-use Rattle.uart_ring_runs.proofs.RingTold.{ring_tells}
-use Rattle.uart_ring_runs.proofs.RingArming.{ready_in, chain_leaves}
-use Rattle.uart_ring_runs.proofs.RingFollows.{ring_follow_chain}
 
 -- ---- what is conserved
 

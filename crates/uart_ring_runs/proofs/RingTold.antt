@@ -1,38 +1,21 @@
 -- What `take_line` and `take_modem` tell in a session.
-use Rattle.std.proofs.Common.{◌≡◌, ℕ, Bool, min, not, ◌==◌, List, [], ◌∷◌, ◌++◌, take, Option, refl, arith, sym, ◌∙◌, ap, subst}
-use Rattle.std.proofs.Common.{bit_and, bit_or}
+use Rattle.uart_ring_runs.proofs.Names.{◌≡◌, ℕ, Bool, min, not, ◌==◌, List, [], ◌∷◌, ◌++◌, take, Option, refl, arith, sym, ◌∙◌, ap, subst}
+use Rattle.uart_ring_runs.proofs.Names.{bit_and, bit_or, Path, Access, Read, has_any, Fields, Character, MachineState, MachineStep}
+use Rattle.uart_ring_runs.proofs.Names.{reported_front, IsTold, AllTold, each-append, Modes, fixed, look_clears, status_clears}
+use Rattle.uart_ring_runs.proofs.Names.{taken_entered, step_is, ended, InSession, same_cut, RingDoing, RingFields, ring_fields, TakesLine}
+use Rattle.uart_ring_runs.proofs.Names.{TakesModem, RingCall, RingAnswer, RingState, under, ring_machine, RingCalled, RingCallStep}
+use Rattle.uart_ring_runs.proofs.Names.{RingLink, RingChain, line_answer, modem_answer, RingTells, NeitherIs, AllWithinRingSession}
 use Rattle.std.specs.Int.{bit_at}
 use Rattle.std.proofs.lemmas.Nat.Bits.{same_from_bits, bit_at_or, bit_at_and}
-use Rattle.uart_spec.specs.Access.{Path}
-use Rattle.uart_spec.specs.declared.access.Access.{Access}
-use Rattle.uart_spec.specs.declared.access.Access.TheVariants.{Read}
-use Rattle.uart_spec.specs.Bits.{IsWithin, has_any}
+use Rattle.uart_spec.specs.Bits.{IsWithin}
 use Rattle.uart_spec.specs.declared.registers.line_status.TheConstants.LSR
 use Rattle.uart_spec.specs.declared.registers.modem_status.TheConstants.MSR
 use Rattle.uart_spec.specs.declared.registers.offsets.TheConstants as offsets
-use Rattle.uart_16550.specs.Driver.{Fields}
-use Rattle.uart_chip.specs.declared.receiver.Character.{Character}
-use Rattle.uart_chip.specs.Machine.{MachineState, MachineStep}
-use Rattle.uart_chip.specs.Laws.{reported_front, IsTold, AllTold}
-use Rattle.uart_chip.proofs.Lists.{each-append}
-use Rattle.uart_chip.proofs.conservation.Went.{Modes, fixed}
-use Rattle.uart_chip.proofs.conservation.SessionLaws.{look_clears, status_clears, taken_entered}
 use Rattle.uart_chip.proofs.statuses.StatusLaws.{LsrTells, lsr_tells, MsrTells, msr_tells, told-by, all_told-by}
-use Rattle.uart_run.proofs.Chains.{step_is, ended}
-use Rattle.uart_run.proofs.CallLaws.{InSession}
-use Rattle.uart_run.proofs.FrameLaws.{same_cut}
 use Rattle.uart_run.proofs.StatusSessions.{After}
-use Rattle.uart_ring.specs.Ring.{RingDoing, RingFields, ring_fields}
-use Rattle.uart_ring.specs.Status.{TakesLine, TakesModem}
-use Rattle.uart_ring_runs.specs.declared.call.RingCall.{RingCall}
 use Rattle.uart_ring_runs.specs.declared.call.RingCall.TheVariants as call
-use Rattle.uart_ring_runs.specs.declared.call.RingAnswer.{RingAnswer}
 use Rattle.uart_ring_runs.specs.declared.call.RingAnswer.TheVariants.{Line, Modem}
-use Rattle.uart_ring_runs.specs.RingRun.{RingState, under, ring_machine, RingCalled, RingCallStep, RingLink, RingChain}
-use Rattle.uart_ring_runs.specs.RingRun.{line_answer, modem_answer}
-use Rattle.uart_ring_runs.specs.RingStatuses.{RingTells, NeitherIs}
 use Rattle.uart_run.specs.Statuses.{TellsLine}
-use Rattle.uart_ring_runs.specs.RingSession.{AllWithinRingSession}
 use Rattle.uart_ring_runs.proofs.RingLasts.{first_within, within-front}
 use Rattle.uart_ring_runs.proofs.RingGoes.{ChainGoes, line_of_driver, modem_of_driver, ring_goes_call, ring_goes_chain, in_session-gone}
 

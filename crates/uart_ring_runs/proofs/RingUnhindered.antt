@@ -1,40 +1,23 @@
 -- In a ready state no call changes the size of the FIFOs, so where no call is held up, none is at the next. And in a session the wire and
 -- the rings fill by no more than its calls are to send or add, so room for all of it at the start is room for each.
-use Rattle.std.proofs.Common.{◌≡◌, ℕ, ◌+◌, ◌-◌, ◌≤◌, Bool, ◌&&◌, List, [], ◌∷◌, ◌++◌, length, map, take, drop, Option, Some, None, refl}
-use Rattle.std.proofs.Common.{arith, sym, ◌∙◌, ap, subst, length-append, length-take, length-drop}
-use Rattle.std.specs.Prelude.{option_to_list}
-use Rattle.std.proofs.lemmas.List.{append_assoc, length-map}
-use Rattle.uart_spec.specs.Bits.{has_any}
+use Rattle.uart_ring_runs.proofs.Names.{◌≡◌, ℕ, ◌+◌, ◌-◌, ◌≤◌, Bool, ◌&&◌, List, [], ◌∷◌, ◌++◌, length, map, take, Option, Some, None, refl}
+use Rattle.uart_ring_runs.proofs.Names.{arith, sym, ◌∙◌, ap, subst, length-append, length-take, length-drop, option_to_list, append_assoc}
+use Rattle.uart_ring_runs.proofs.Names.{length-map, has_any, Call, Answer, Done, Stalled, cut_of, out, MachineState, same_pace}
+use Rattle.uart_ring_runs.proofs.Names.{same_pace-mark, EachLink, HasRoom, IsUnchecked, IsUnheld, KeepsChecks, GoesOn, Follows, count_of}
+use Rattle.uart_ring_runs.proofs.Names.{sent_of, sent_byte_of, reported_by, IsUnhindered, IsWired, Lasts, lasts_wired, keeps_size}
+use Rattle.uart_ring_runs.proofs.Names.{overtaken_by, RingCall, RingAnswer, to_send, to_send_with, FollowsDriver, RingFollows}
+use Rattle.uart_ring_runs.proofs.Names.{KeepsRingSize, KeepsRingChecks, RingState, under, ring_machine, RingCallStep, RingLink, RingChain}
+use Rattle.uart_ring_runs.proofs.Names.{IsWithinRingSession, AllWithinRingSession, SendsInLine, AllRingFollow, RanRing}
 use Rattle.uart_spec.specs.declared.registers.modem_control.TheConstants.MCR
 use Rattle.uart_16550.specs.Expansion.{expansion}
-use Rattle.uart_events.specs.declared.call.Call.{Call}
 use Rattle.uart_events.specs.declared.call.Call.TheVariants as driver
-use Rattle.uart_events.specs.declared.call.Answer.{Answer}
-use Rattle.uart_events.specs.declared.call.Answer.TheVariants.{Done, Stalled}
-use Rattle.uart_chip.specs.Chip.{cut_of}
-use Rattle.uart_chip.specs.Conserved.{out}
-use Rattle.uart_chip.specs.Machine.{MachineState}
 use Rattle.uart_chip.proofs.AutoFlow.{never_on}
-use Rattle.uart_chip.proofs.lasting.Constants.{same_pace, same_pace-mark}
-use Rattle.uart_run.specs.Chains.{EachLink}
-use Rattle.uart_run.specs.Progress.{HasRoom, IsUnchecked, IsUnheld, KeepsChecks}
-use Rattle.uart_run.specs.Session.{GoesOn, Follows, count_of, sent_of, sent_byte_of, reported_by}
 use Rattle.uart_run.specs.Unhindered as run
-use Rattle.uart_run.specs.Unhindered.{IsUnhindered, Ends}
-use Rattle.uart_run.specs.Wired.{IsWired}
-use Rattle.uart_run.proofs.Sessions.{Lasts, lasts_wired}
-use Rattle.uart_run.proofs.SizeKept.{keeps_size}
-use Rattle.uart_ring.specs.Lossless.{overtaken_by, without_dropped}
-use Rattle.uart_ring_runs.specs.declared.call.RingCall.{RingCall}
+use Rattle.uart_run.specs.Unhindered.{Ends}
 use Rattle.uart_ring_runs.specs.declared.call.RingCall.TheVariants as call
-use Rattle.uart_ring_runs.specs.declared.call.RingAnswer.{RingAnswer}
 use Rattle.uart_ring_runs.specs.declared.call.RingAnswer.TheVariants as answer
-use Rattle.uart_ring_runs.specs.RingBytes.{to_send, to_send_with}
-use Rattle.uart_ring_runs.specs.RingFollows.{FollowsDriver, RingFollows, KeepsRingSize, KeepsRingChecks}
-use Rattle.uart_ring_runs.specs.RingRun.{RingState, under, ring_machine, RingCallStep, RingLink, RingChain}
-use Rattle.uart_ring_runs.specs.RingSession.{IsWithinRingSession, AllWithinRingSession, SendsInLine, AllRingFollow, RanRing}
 use Rattle.uart_ring_runs.specs.RingUnhindered.{to_add, RingEnds, RingEndsWithRoom, RingCallsEnd, RingCallsSucceed}
-use Rattle.uart_ring_runs.specs.RingUnhindered.{HasRingRoom, all_to_add, RingSessionEnds, RingSessionsSucceed}
+use Rattle.uart_ring_runs.specs.RingUnhindered.{HasRingRoom, all_to_add, RingSessionsSucceed}
 use Rattle.uart_ring_runs.proofs.RingLasts.{ring_lasts_call, within_later}
 
 -- ---- one call

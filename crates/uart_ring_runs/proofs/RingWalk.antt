@@ -1,37 +1,20 @@
 -- One walk over all that the rings do: what holds of each doing of the driver under them, and of two in turn, holds of each ring call.
-use Rattle.std.proofs.Common.{◌≡◌, ℕ, zero, suc, nat_lt, Bool, true, false, MatchBool, List, [], ◌∷◌, ◌++◌, length, take, min, refl}
-use Rattle.std.proofs.Common.{sym, subst, Option, Some, None, Result}
-use Rattle.std.specs.Prelude.{MatchOption}
-use Rattle.uart_spec.specs.declared.access.Access.{Access}
-use Rattle.uart_spec.specs.declared.access.Access.TheVariants.{Read}
-use Rattle.uart_spec.specs.FifoSize.{characters}
+use Rattle.uart_ring_runs.proofs.Names.{◌≡◌, ℕ, zero, suc, nat_lt, Bool, true, false, MatchBool, List, [], ◌∷◌, ◌++◌, length, take, min}
+use Rattle.uart_ring_runs.proofs.Names.{refl, sym, subst, Option, Some, None, Result, MatchOption, Access, Read, characters, InterruptType}
+use Rattle.uart_ring_runs.proofs.Names.{Only, Fields, Doing, Saving, Receives, Sends, Enables, Disables, TakesLsr, TakesMsr, RingDoing}
+use Rattle.uart_ring_runs.proofs.Names.{RingFields, OnDriver, Stays, RingSets, RingTimes, IfAny, free, is_full, waiting, sendable}
+use Rattle.uart_ring_runs.proofs.Names.{without_sent, without_taken, with_queued, with_hold, with_urgent, with_low_mark, with_low}
+use Rattle.uart_ring_runs.proofs.Names.{with_rounds, with_paused, cleared, Implies, ArmsIfLeft, Pumps, Queues, ResumesTransmit, Holds}
+use Rattle.uart_ring_runs.proofs.Names.{Releases, QueuesUrgent, ClearsTransmit, SetsLowMark, TakesLow, PausesIfFull, FillsReceiveRing}
+use Rattle.uart_ring_runs.proofs.Names.{EndsPause, TakesBytes, ClearsReceive, TakesLine, TakesModem, ServesInterrupt, ServesOne, Stops}
+use Rattle.uart_ring_runs.proofs.Names.{ServesUpTo, Services, Retriggers, RetriggersUnlessIdle, Handles, every_bit, LooksOnceMore}
+use Rattle.uart_ring_runs.proofs.Names.{CountsUnfinished, CountsRound, HandlesRound, StaysStuck, TriesToHandle, Restarts, not_paused}
+use Rattle.uart_ring_runs.proofs.Names.{counts_as, has_moved, round_limit, StuckError, MAX_INTERRUPTS, HandleEnd, Idle, Unknown, Limit}
+use Rattle.uart_ring_runs.proofs.Names.{Handled}
 use Rattle.uart_spec.specs.declared.registers.interrupt_enable.TheConstants.IER
-use Rattle.uart_spec.specs.declared.registers.interrupt_type.InterruptType.{InterruptType}
 use Rattle.uart_spec.specs.declared.registers.interrupt_type.InterruptType.TheVariants as interrupts
 use Rattle.uart_spec.specs.declared.registers.offsets.TheConstants as offsets
-use Rattle.uart_16550.specs.Grammar.{Only}
-use Rattle.uart_16550.specs.Driver.{Fields, Doing, Saving}
-use Rattle.uart_16550.specs.Receive.{Receives}
-use Rattle.uart_16550.specs.Transmit.{Sends}
-use Rattle.uart_16550.specs.Status.{Enables, Disables, TakesLsr, TakesMsr}
 use Rattle.uart_16550.specs.Status as status
-use Rattle.uart_ring.specs.Ring.{RingDoing, RingFields, OnDriver, Stays, RingSets, RingTimes, IfAny, free, is_full, waiting, sendable}
-use Rattle.uart_ring.specs.Ring.{without_sent, without_taken, with_queued, with_hold, with_urgent, with_low_mark, with_low, with_rounds}
-use Rattle.uart_ring.specs.Ring.{with_paused, cleared}
-use Rattle.uart_ring.specs.Lossless.{Implies}
-use Rattle.uart_ring.specs.Transmit.{ArmsIfLeft, Pumps, Queues, ResumesTransmit, Holds, Releases, QueuesUrgent, ClearsTransmit}
-use Rattle.uart_ring.specs.Transmit.{SetsLowMark, TakesLow}
-use Rattle.uart_ring.specs.Receive.{PausesIfFull, FillsReceiveRing, EndsPause, TakesBytes, ClearsReceive}
-use Rattle.uart_ring.specs.Status.{TakesLine, TakesModem}
-use Rattle.uart_ring.specs.Service.{ServesInterrupt, ServesOne, Stops, ServesUpTo, Services}
-use Rattle.uart_ring.specs.Handle.{Retriggers, RetriggersUnlessIdle, Handles}
-use Rattle.uart_ring.specs.Storm.{every_bit, LooksOnceMore, CountsUnfinished, CountsRound, HandlesRound, StaysStuck, TriesToHandle}
-use Rattle.uart_ring.specs.Storm.{Restarts, not_paused, counts_as, has_moved, round_limit}
-use Rattle.uart_ring.specs.declared.ring.storm.StuckError.{StuckError}
-use Rattle.uart_ring.specs.declared.ring.service.TheConstants.{MAX_INTERRUPTS}
-use Rattle.uart_ring.specs.declared.ring.service.HandleEnd.{HandleEnd}
-use Rattle.uart_ring.specs.declared.ring.service.HandleEnd.TheVariants.{Idle, Unknown, Limit}
-use Rattle.uart_ring.specs.declared.ring.service.Handled.{Handled}
 
 -- whatever this doing of the driver does, the other says of it
 abbrev pub Among : Doing → Doing → Type 0

@@ -1,40 +1,20 @@
 -- What serving one interrupt does to what is left to be shown, if no byte moves.
-use Rattle.std.proofs.Common.{◌≡◌, ◌⊎◌, ℕ, ◌+◌, ◌≤◌, ◌<◌, ◌==◌, ◌||◌, ◌&&◌, Bool, true, false, not, nat_lt, MatchBool, List, []}
-use Rattle.std.proofs.Common.{◌∷◌, ◌++◌, length, append_assoc, Option, Some, None, inl, inr, refl, sym, ◌∙◌, ap, subst, arith, bit_and}
-use Rattle.std.proofs.Common.{bit_or, if◌then◌else◌}
-use Rattle.std.proofs.lemmas.Bool.{and_parts, false≢true}
-use Rattle.std.specs.List.{AllByRecursion, list_any}
-use Rattle.std.proofs.lemmas.Bool.Decides.{nat_tests}
-use Rattle.bitflags.specs.Sets.{without}
-use Rattle.uart_spec.specs.Access.{Path}
-use Rattle.uart_spec.specs.Bits.{has, has_any, flag, IsOnlyIfAny}
-use Rattle.uart_spec.specs.Fields.{Identifies}
-use Rattle.uart_spec.specs.declared.access.Access.{Access}
-use Rattle.uart_spec.specs.declared.access.Access.TheVariants.{Read, Write}
-use Rattle.uart_spec.specs.declared.errors.ByteSendError.TheVariants.{NoCapacity, RemoteNotClearToSend}
+use Rattle.uart_ring_runs.proofs.Names.{◌≡◌, ◌⊎◌, ℕ, ◌+◌, ◌≤◌, ◌<◌, ◌==◌, ◌||◌, ◌&&◌, Bool, true, false, not, nat_lt, MatchBool, List, []}
+use Rattle.uart_ring_runs.proofs.Names.{◌∷◌, ◌++◌, length, append_assoc, Option, Some, None, inl, inr, refl, sym, ◌∙◌, ap, subst, arith}
+use Rattle.uart_ring_runs.proofs.Names.{bit_and, bit_or, if◌then◌else◌, and_parts, false≢true, AllByRecursion, list_any, nat_tests, without}
+use Rattle.uart_ring_runs.proofs.Names.{Path, has, has_any, flag, IsOnlyIfAny, Identifies, Access, Read, Write, NoCapacity}
+use Rattle.uart_ring_runs.proofs.Names.{RemoteNotClearToSend, InterruptType, Event, Settings, Then, Asks, LinesAllow, SendMiss, Sends}
+use Rattle.uart_ring_runs.proofs.Names.{Character, ier_bits, ReceiverState, report, front_errors, has_errors, unreported, is_data_pending}
+use Rattle.uart_ring_runs.proofs.Names.{is_timed_out, ChipState, LatchesState, interrupt, is_thr_empty, after_read, enable, is_dlab_set}
+use Rattle.uart_ring_runs.proofs.Names.{is_loopback, line_status, is_transmitter_empty, isr_of, MachineState, MachineStep, at_access}
+use Rattle.uart_ring_runs.proofs.Names.{some_characters, ReadMove, read_move, has_and, has_not, has_one, has_or, path_as, look_data}
+use Rattle.uart_ring_runs.proofs.Names.{shows_64, news}
 use Rattle.uart_spec.specs.declared.registers.interrupt_enable.TheConstants.IER
-use Rattle.uart_spec.specs.declared.registers.interrupt_type.InterruptType.{InterruptType}
 use Rattle.uart_spec.specs.declared.registers.interrupt_type.InterruptType.TheVariants as interrupts
 use Rattle.uart_spec.specs.declared.registers.line_status.TheConstants.LSR
 use Rattle.uart_spec.specs.declared.registers.offsets.TheConstants as offsets
-use Rattle.uart_events.specs.declared.event.Event.{Event}
-use Rattle.uart_16550.specs.Grammar.{Settings, Then, Asks}
-use Rattle.uart_16550.specs.Transmit.{LinesAllow, SendMiss, Sends}
 use Rattle.uart_16550.proofs.Languages.{some_limit}
-use Rattle.uart_chip.specs.declared.receiver.Character.{Character}
-use Rattle.uart_chip.specs.Masks.{ier_bits}
-use Rattle.uart_chip.specs.Receiver.{ReceiverState, report, front_errors, has_errors, unreported, is_data_pending, is_timed_out}
-use Rattle.uart_chip.specs.Chip.{ChipState, LatchesState, interrupt, is_thr_empty, after_read, enable, is_dlab_set}
-use Rattle.uart_chip.specs.Chip.{is_loopback, line_status, is_transmitter_empty}
-use Rattle.uart_chip.proofs.FifoBits.{isr_of}
-use Rattle.uart_chip.specs.Machine.{MachineState, MachineStep, at_access}
-use Rattle.uart_chip.proofs.Sizes.{some_characters}
-use Rattle.uart_chip.proofs.AccessMoves.{ReadMove, read_move}
 use Rattle.uart_chip.proofs.AccessMoves as move
-use Rattle.uart_chip.proofs.Bits.{has_and, has_not, has_one, has_or}
-use Rattle.uart_chip.proofs.conservation.BlockLaws.{path_as, look_data}
-use Rattle.uart_run.proofs.initialising.FifoShown.{shows_64}
-use Rattle.uart_ring_runs.specs.Healthy.{news}
 use Rattle.uart_ring_runs.proofs.Pending.{Drifts, one_if, line_left, sent_left, data_left, modem_left, left, waited, news-append}
 use Rattle.uart_ring_runs.proofs.RingEdges.{named}
 

@@ -1,24 +1,13 @@
 -- That a line which several ports share is low once the line of each was lowered, whatever happens to the chips.
-use Rattle.std.proofs.Common.{◌≡◌, ◌≤◌, ℕ, zero, suc, Bool, true, false, List, [], ◌∷◌, ◌++◌, length, map, inl, inr, refl, sym}
-use Rattle.std.proofs.Common.{◌∙◌, ap, subst, arith, bit_and}
-use Rattle.std.specs.Prelude.{is_some}
-use Rattle.std.proofs.lemmas.Bool.{false≢true}
-use lib.Bits.{and_zero_r}
-use Rattle.uart_spec.specs.Access.{Path}
-use Rattle.uart_spec.specs.declared.access.Access.{Access}
-use Rattle.uart_spec.specs.declared.access.Access.TheVariants.{Read, Write}
+use Rattle.uart_ring_runs.proofs.Names.{◌≡◌, ◌≤◌, ℕ, zero, suc, Bool, true, false, List, [], ◌∷◌, ◌++◌, length, map, inl, inr, refl, sym}
+use Rattle.uart_ring_runs.proofs.Names.{◌∙◌, ap, subst, arith, bit_and, is_some, false≢true, and_zero_r, Path, Access, Read, Write}
+use Rattle.uart_ring_runs.proofs.Names.{ier_bits, ChipState, interrupt, is_dlab_set, MachineState, MachineStep, Kept, kept_in, kept_step}
+use Rattle.uart_ring_runs.proofs.Names.{kept-before_mark, RingFields, ring_fields, every_bit, rid_of}
 use Rattle.uart_spec.specs.declared.registers.offsets.TheConstants as offsets
-use Rattle.uart_chip.specs.Masks.{ier_bits}
-use Rattle.uart_chip.specs.Chip.{ChipState, interrupt, is_dlab_set}
-use Rattle.uart_chip.specs.Machine.{MachineState, MachineStep}
-use Rattle.uart_run.proofs.Latches.{Kept, kept_in, kept_step, kept-before_mark}
-use Rattle.uart_ring.specs.Ring.{RingFields, ring_fields}
-use Rattle.uart_ring.specs.Storm.{every_bit}
 use Rattle.uart_ring.specs.Line.{LowersLine, ServesInTurn, AtPort, EachGoes, IsSame, LowersPort, LowersAt, HandlesPorts}
 use Rattle.uart_ring.specs.declared.line.LinePort.{LinePort}
 use Rattle.uart_ring.specs.declared.ring.line.Lowered.{Lowered}
 use Rattle.uart_ring.proofs.Lines.{turns_length}
-use Rattle.uart_ring.proofs.Pausing.{rid_of}
 use Rattle.uart_ring_runs.specs.SharedLine.{Moment, port_machine, is_shared_line_up, AreDlabsOff, Happened, AtAnyTime, WasLowered}
 use Rattle.uart_ring_runs.specs.SharedLine.{WereLowered, last_of, RisesIn}
 use Rattle.uart_ring_runs.proofs.RingBlocks.{LeavesLcr, AllLeaveLcr, MakesBlocks, in_blocks}

@@ -1,25 +1,13 @@
 -- Accesses that leave the chip's THR-empty interrupt enabled and due: no read of ISR, and no write of IER or FCR.
-use Rattle.std.proofs.Common.{not, ◌||◌, sym, ◌≡◌, ℕ, ◌==◌, Bool, true, false, List, [], ◌∷◌, refl}
-use Rattle.std.proofs.Common.{arith}
-use Rattle.std.specs.List.{AllByRecursion}
-use Rattle.std.proofs.lemmas.Grind.{common_steps}
-use Rattle.uart_spec.specs.Access.{Path}
-use Rattle.uart_spec.specs.Bits.{has}
-use Rattle.uart_spec.specs.declared.access.Access.{Access}
-use Rattle.uart_spec.specs.declared.access.Access.TheVariants.{Read, Write}
+use Rattle.uart_ring_runs.proofs.Names.{not, ◌||◌, sym, ◌≡◌, ℕ, ◌==◌, Bool, true, false, List, [], ◌∷◌, refl, arith, AllByRecursion}
+use Rattle.uart_ring_runs.proofs.Names.{common_steps, Path, has, Access, Read, Write, Language, Settings, ChipState, cut_of, MachineState}
+use Rattle.uart_ring_runs.proofs.Names.{MachineStep, at_access, ReadMove, WriteMove, read_move, write_lasts, LastsInEvents}
+use Rattle.uart_ring_runs.proofs.Names.{chip_lasts-before, not-true, false≢true, Doing, thr_empty_of}
 use Rattle.uart_spec.specs.declared.registers.interrupt_enable.TheConstants.IER
 use Rattle.uart_spec.specs.declared.registers.offsets.TheConstants as offsets
-use Rattle.uart_16550.specs.Grammar.{Language, Settings}
-use Rattle.uart_chip.specs.Chip.{ChipState, cut_of}
-use Rattle.uart_chip.specs.Machine.{MachineState, MachineStep, at_access}
-use Rattle.uart_chip.proofs.AccessMoves.{ReadMove, WriteMove, read_move, write_lasts}
 use Rattle.uart_chip.proofs.AccessMoves as move
-use Rattle.uart_chip.proofs.lasting.Lasting.{LastsInEvents, chip_lasts-before}
-use Rattle.std.proofs.lemmas.Bool.{not-true, false≢true}
-use Rattle.uart_16550.specs.Driver.{Doing}
 use Rattle.uart_run.proofs.ListsInTurn.{HoldsOfAll, HoldsOfDoing}
 use Rattle.uart_run.proofs.built.Words.{Kinds, Built, Does, all_pass, each_so, does_so}
-use Rattle.uart_ring_runs.specs.RingArmed.{thr_empty_of}
 use Rattle.uart_ring_runs.proofs.RingDue.{IsDue, due-tick, due-load, due_says, says_due}
 
 -- ---- what lasts

@@ -1,57 +1,25 @@
 -- A round in which no byte moves: each interrupt that it serves was left to be shown at its start, or was brought by the schedule.
-use Rattle.std.proofs.Common.{◌≡◌, ◌≢◌, ◌⊎◌, ℕ, ◌+◌, ◌≤◌, ◌<◌, ◌==◌, ◌-◌, ◌||◌, ◌&&◌, zero, suc, Bool, true, false, not, MatchBool, List}
-use Rattle.std.proofs.Common.{[], ◌∷◌, ◌++◌, length, length-append, append_assoc, append-nil, Option, Some, None, inl, inr}
-use Rattle.std.proofs.Common.{refl, sym, ◌∙◌, ap, subst, arith, drop, min, Result, Ok, Err}
-use Rattle.std.proofs.lemmas.Bool.{and_parts, false≢true}
-use Rattle.std.proofs.lemmas.Bool.Decides.{nat_tests}
-use Rattle.std.proofs.lemmas.List.{length-drop, nil_from_length}
-use Rattle.std.proofs.Math.Seq.{take-append_seam}
+use Rattle.uart_ring_runs.proofs.Names.{◌≡◌, ◌≢◌, ◌⊎◌, ℕ, ◌+◌, ◌≤◌, ◌<◌, ◌==◌, ◌-◌, ◌||◌, ◌&&◌, zero, suc, Bool, true, false, not}
+use Rattle.uart_ring_runs.proofs.Names.{MatchBool, List, [], ◌∷◌, ◌++◌, length, length-append, append_assoc, append-nil, Option, Some, None}
+use Rattle.uart_ring_runs.proofs.Names.{inl, inr, refl, sym, ◌∙◌, ap, subst, arith, drop, min, Result, Ok, Err, and_parts, false≢true}
+use Rattle.uart_ring_runs.proofs.Names.{nat_tests, length-drop, nil_from_length, take-append_seam, MatchOption, option_to_list, Path}
+use Rattle.uart_ring_runs.proofs.Names.{has_any, Access, Read, Write, characters, InterruptType, Event, Mark, Gate, Settings, Fields}
+use Rattle.uart_ring_runs.proofs.Names.{settings_of, Receives, Sends, interrupt, is_thr_empty, between, at_least_16, MachineState}
+use Rattle.uart_ring_runs.proofs.Names.{MachineStep, at_access, after_access, path_as, path_split, Ready, Queue, RingFields, RingDid}
+use Rattle.uart_ring_runs.proofs.Names.{OnDriver, RingTimes, ring_fields, free, is_full, with_driver, sendable, allowed, without_sent}
+use Rattle.uart_ring_runs.proofs.Names.{with_received, with_paused, Stays, urgent_left, ArmsIfLeft, Pumps, PausesIfFull, FillsReceiveRing}
+use Rattle.uart_ring_runs.proofs.Names.{ServesInterrupt, ServesOne, Stops, IsWithin, Handles, RetriggersUnlessIdle, has_moved, counts_as}
+use Rattle.uart_ring_runs.proofs.Names.{CountsRound, HandlesRound, StaysStuck, TriesToHandle, unless_stuck, round_limit, HandleEnd, Idle}
+use Rattle.uart_ring_runs.proofs.Names.{Unknown, Limit, Handled, StuckError, RingState, under, ring_machine, news, news_between}
+use Rattle.uart_ring_runs.proofs.Names.{most_without_news, IsInRoom, Disables, is_data_pending, is_timed_out, without, Kept, kept_step}
 use Rattle.std.specs.Option.{is_some}
-use Rattle.std.specs.Prelude.{MatchOption, option_to_list}
-use Rattle.uart_spec.specs.Access.{Path}
-use Rattle.uart_spec.specs.Bits.{has_any}
-use Rattle.uart_spec.specs.declared.access.Access.{Access}
-use Rattle.uart_spec.specs.declared.access.Access.TheVariants.{Read, Write}
-use Rattle.uart_spec.specs.FifoSize.{characters}
 use Rattle.uart_spec.specs.declared.registers.interrupt_enable.TheConstants.IER
-use Rattle.uart_spec.specs.declared.registers.interrupt_type.InterruptType.{InterruptType}
 use Rattle.uart_spec.specs.declared.registers.interrupt_type.InterruptType.TheVariants as interrupts
 use Rattle.uart_spec.specs.declared.registers.offsets.TheConstants as offsets
-use Rattle.uart_events.specs.declared.event.Event.{Event}
-use Rattle.uart_events.specs.declared.event.Event.TheVariants.{Mark, Access as Gate}
-use Rattle.uart_16550.specs.Grammar.{Settings}
-use Rattle.uart_16550.specs.Driver.{Fields, settings_of}
-use Rattle.uart_16550.specs.Receive.{Receives}
-use Rattle.uart_16550.specs.Transmit.{Sends}
-use Rattle.uart_chip.specs.Chip.{interrupt, is_thr_empty}
-use Rattle.uart_chip.specs.Conserved.{between}
-use Rattle.uart_chip.proofs.Sizes.{at_least_16}
-use Rattle.uart_chip.specs.Machine.{MachineState, MachineStep, at_access, after_access}
-use Rattle.uart_chip.proofs.conservation.BlockLaws.{path_as, path_split}
-use Rattle.uart_run.specs.Ready.{Ready}
-use Rattle.uart_ring.specs.Queue.{Queue}
-use Rattle.uart_ring.specs.Ring.{RingFields, RingDid, OnDriver, RingTimes, ring_fields, free, is_full, with_driver, sendable, allowed}
-use Rattle.uart_ring.specs.Ring.{without_sent, with_received, with_paused, Stays, urgent_left}
-use Rattle.uart_ring.specs.Transmit.{ArmsIfLeft, Pumps}
-use Rattle.uart_ring.specs.Receive.{PausesIfFull, FillsReceiveRing}
-use Rattle.uart_ring.specs.Service.{ServesInterrupt, ServesOne, Stops, IsWithin}
-use Rattle.uart_ring.specs.Handle.{Handles, RetriggersUnlessIdle}
-use Rattle.uart_ring.specs.Storm.{has_moved, counts_as, CountsRound, HandlesRound, StaysStuck, TriesToHandle, unless_stuck, round_limit}
-use Rattle.uart_ring.specs.declared.ring.service.HandleEnd.{HandleEnd}
-use Rattle.uart_ring.specs.declared.ring.service.HandleEnd.TheVariants.{Idle, Unknown, Limit}
-use Rattle.uart_ring.specs.declared.ring.service.Handled.{Handled}
-use Rattle.uart_ring.specs.declared.ring.storm.StuckError.{StuckError}
-use Rattle.uart_ring_runs.specs.RingRun.{RingState, under, ring_machine}
-use Rattle.uart_ring_runs.specs.Healthy.{news, news_between, most_without_news, IsInRoom}
-use Rattle.uart_ring_runs.proofs.Pending.{left_most, news-append}
-use Rattle.uart_ring_runs.proofs.RingEdges.{none_unknown}
+use Rattle.uart_ring_runs.proofs.{Pending.left_most, Pending.news-append, RingEdges.none_unknown}
 use Rattle.uart_ring_runs.proofs.Served.{IsOpenAt, Leaves, leaves-trans, leaves-none, looks_left, shown, told_by, line_served, modem_served}
 use Rattle.uart_ring_runs.proofs.Served.{thr_served, unsent_looks, data_shown, data_served, armed_left, disarmed_left, not_thr, AllLooks}
 use Rattle.uart_ring.proofs.Storms.{handles_keep}
-use Rattle.uart_16550.specs.Status.{Disables}
-use Rattle.uart_chip.specs.Receiver.{is_data_pending, is_timed_out}
-use Rattle.bitflags.specs.Sets.{without}
-use Rattle.uart_run.proofs.Latches.{Kept, kept_step}
 
 -- ---- what moved
 

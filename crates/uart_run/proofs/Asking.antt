@@ -1,51 +1,24 @@
 -- Calls that ask their caller, and bursts of any size: the lists that they make are those of other calls.
-use Rattle.std.proofs.Common.{◌≡◌, ◌<◌, ◌≤◌, ◌+◌, ◌-◌, ℕ, zero, suc, Bool, true, false, MatchBool, List, [], ◌∷◌, ◌++◌, length, map}
-use Rattle.std.proofs.Common.{take, drop, Option, Some, None, Result, Ok, Err, inl, inr, refl, sym, ◌∙◌, ap, subst, arith, bit_or}
-use Rattle.std.proofs.Common.{append_assoc, append-nil, length-append, length-drop}
-use Rattle.std.specs.List.{sum}
+use Rattle.uart_run.proofs.Names.{◌≡◌, ◌<◌, ◌≤◌, ◌+◌, ◌-◌, ℕ, zero, suc, Bool, true, false, MatchBool, List, [], ◌∷◌, ◌++◌, length, map}
+use Rattle.uart_run.proofs.Names.{take, drop, Option, Some, None, Result, Ok, Err, inl, inr, refl, sym, ◌∙◌, ap, subst, arith, bit_or}
+use Rattle.uart_run.proofs.Names.{append_assoc, append-nil, length-append, length-drop, sum, or_zero_r, Path, saved_lsr, saved_msr, Access}
+use Rattle.uart_run.proofs.Names.{ByteReceiveError, NoCapacity, RemoteNotClearToSend, StalledError, Config, LoopbackError, FifoSize}
+use Rattle.uart_run.proofs.Names.{SendsBurst, Fields, Made, fields, settings_of, with_fifo_size, ShowsIdle, Inits, TestsLoopback, Starts}
+use Rattle.uart_run.proofs.Names.{inner_of, SendsEach, SendsText, expansion, Asks, Language, Only, Settings, Then, InOrder, Times, Miss}
+use Rattle.uart_run.proofs.Names.{TryReceive, Burst, IsCut, LinesAllow, SendHit, SendMiss, Sends, burst_size, did_made, some_limit}
+use Rattle.uart_run.proofs.Names.{or_assoc, saved-append, Call, Answer, Count, Done, Flag, InitRefused, MachineState, MachineStep}
+use Rattle.uart_run.proofs.Names.{path_split, State, under_terminal, Driver, StandsFor, StandsForRun, sends_of, in_vain, sent_by, found_of}
+use Rattle.uart_run.proofs.Names.{answer_of, looks_of, WritesInTurn, IsTextSent, sends_one, counts_one, went_of, SendsSized, SendsInTurn}
+use Rattle.uart_run.proofs.Names.{ReceivesInTurn, LooksInTurn, StartsTerminal, starts_of, started_of, loopback_answer}
 use Rattle.std.proofs.lemmas.List.Sums.{sum_by-cons}
-use lib.Bits.{or_zero_r}
-use Rattle.uart_spec.specs.Access.{Path, saved_lsr, saved_msr}
-use Rattle.uart_spec.specs.declared.access.Access.{Access}
-use Rattle.uart_spec.specs.declared.errors.ByteReceiveError.{ByteReceiveError}
-use Rattle.uart_spec.specs.declared.errors.ByteSendError.TheVariants.{NoCapacity, RemoteNotClearToSend}
-use Rattle.uart_spec.specs.declared.errors.StalledError.{StalledError}
-use Rattle.uart_spec.specs.declared.config.Config.{Config}
-use Rattle.uart_spec.specs.declared.errors.LoopbackError.{LoopbackError}
 use Rattle.uart_spec.specs.declared.errors.Uart16550TtyError.{Uart16550TtyError}
 use Rattle.uart_spec.specs.declared.errors.Uart16550TtyError.TheVariants.{AddressError, InitError, TestError}
 use Rattle.uart_spec.specs.declared.registers.line_status.TheConstants.LSR
 use Rattle.uart_spec.specs.declared.registers.offsets.TheConstants as offsets
-use Rattle.uart_spec.specs.declared.setup.FifoSize.{FifoSize}
-use Rattle.uart_16550.specs.Bursts.{SendsBurst}
-use Rattle.uart_16550.specs.Driver.{Fields, Made, fields, settings_of, with_fifo_size}
-use Rattle.uart_16550.specs.Frame.{ShowsIdle}
-use Rattle.uart_16550.specs.Init.{Inits}
-use Rattle.uart_16550.specs.Loopback.{TestsLoopback}
-use Rattle.uart_16550.specs.Tty.{Starts, inner_of}
-use Rattle.uart_16550.specs.Expansion.{SendsEach, SendsText, expansion}
-use Rattle.uart_16550.specs.Grammar.{Asks, Language, Only, Settings, Then, InOrder, Times}
 use Rattle.uart_16550.specs.Patience.{Awaited, ByteAfter, FlushesWhile, InVain, ReceivesWhile, RoundAfter, SendsWhile, ShowsEmpty}
 use Rattle.uart_16550.specs.Patience.{items_of, keeps_waiting, misses_of}
-use Rattle.uart_16550.specs.Receive.{Miss, TryReceive}
-use Rattle.uart_16550.specs.Transmit.{Burst, IsCut, LinesAllow, SendHit, SendMiss, Sends, burst_size}
-use Rattle.uart_16550.proofs.Doings.{did_made}
-use Rattle.uart_16550.proofs.Languages.{some_limit}
-use Rattle.uart_16550.proofs.Paths.{or_assoc, saved-append}
-use Rattle.uart_events.specs.declared.call.Call.{Call}
 use Rattle.uart_events.specs.declared.call.Call.TheVariants as call
-use Rattle.uart_events.specs.declared.call.Answer.{Answer}
-use Rattle.uart_events.specs.declared.call.Answer.TheVariants.{Count, Done, Flag, InitRefused}
-use Rattle.uart_chip.specs.Machine.{MachineState, MachineStep}
-use Rattle.uart_chip.proofs.conservation.BlockLaws.{path_split}
-use Rattle.uart_run.specs.Run.{State}
-use Rattle.uart_run.specs.ReceivedErrors.{under_terminal}
-use Rattle.uart_run.specs.StandsFor.{Driver, StandsFor, StandsForRun, sends_of, in_vain, sent_by, found_of, answer_of, looks_of}
-use Rattle.uart_run.specs.StandsFor.{WritesInTurn, IsTextSent, sends_one, counts_one, went_of}
-use Rattle.uart_run.specs.StandsFor.{SendsSized, SendsInTurn, ReceivesInTurn, LooksInTurn, StartsTerminal, starts_of, started_of}
-use Rattle.uart_run.proofs.built.Calls.{call_does}
-use Rattle.uart_run.proofs.built.Words.{leaves}
-use Rattle.uart_calls.specs.Meaning.{loopback_answer}
+use Rattle.uart_run.proofs.{built.Calls.call_does, built.Words.leaves}
 
 -- ---- the driver after some accesses
 

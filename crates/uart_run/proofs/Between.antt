@@ -1,14 +1,9 @@
 -- What lasts of the receiver between accesses, with the FIFO on and outside of loopback.
-use Rattle.std.proofs.Common.{◌≡◌, ℕ, zero, suc, ◌<◌, Bool, true, false, List, [], ◌∷◌, length, refl, sym, ◌∙◌, ap, subst, arith}
-use Rattle.uart_events.specs.declared.event.Event.{Event}
-use Rattle.uart_events.specs.declared.event.Event.TheVariants.{Ticks, Arrive, Access as Gate, Mark}
-use Rattle.uart_chip.specs.Chip.{ChipState, cut_of, is_loopback, tick, ticks}
-use Rattle.uart_chip.specs.Machine.{MachineState, perform, before_access, at_access, before_mark, at_mark}
+use Rattle.uart_run.proofs.Names.{◌≡◌, ℕ, zero, suc, ◌<◌, Bool, true, false, List, [], ◌∷◌, length, refl, sym, ◌∙◌, ap, subst, arith, Event}
+use Rattle.uart_run.proofs.Names.{Ticks, Arrive, Gate, Mark, ChipState, cut_of, is_loopback, tick, ticks, MachineState, perform}
+use Rattle.uart_run.proofs.Names.{before_access, at_access, before_mark, at_mark, ReceiverState, grow_timeout, IsMarked, IsSound}
+use Rattle.uart_run.proofs.Names.{looped_byte, sound_perform}
 use Rattle.uart_chip.specs.Receiver as receiver
-use Rattle.uart_chip.specs.Receiver.{ReceiverState, grow_timeout}
-use Rattle.uart_chip.specs.Sound.{IsMarked, IsSound}
-use Rattle.uart_chip.specs.Transmitter.{looped_byte}
-use Rattle.uart_chip.proofs.soundness.Sounds.{sound_perform}
 
 fifo_ticks : (n : ℕ) (c : ChipState) → (ticks n c).fifo ≡ c.fifo
 fifo_ticks zero c = refl

@@ -1,34 +1,21 @@
 -- The accesses of each call, in blocks.
-use Rattle.std.proofs.Common.{◌≡◌, ℕ, zero, suc, ◌+◌, ◌≤◌, Bool, true, false, inl, inr, List, [], ◌∷◌, ◌++◌, length, length-append}
-use Rattle.std.proofs.Common.{take, drop, append_assoc, append-nil, refl, arith, sym, ◌∙◌, ap, Result, Ok, Err, Some, None, MatchBool}
-use Rattle.std.specs.List.{concat}
+use Rattle.uart_run.proofs.Names.{◌≡◌, ℕ, zero, suc, ◌+◌, ◌≤◌, Bool, true, false, inl, inr, List, [], ◌∷◌, ◌++◌, length, length-append}
+use Rattle.uart_run.proofs.Names.{take, drop, append_assoc, append-nil, refl, arith, sym, ◌∙◌, ap, Result, Ok, Err, Some, None, MatchBool}
+use Rattle.uart_run.proofs.Names.{concat, length-take, nil_from_length, take-append-drop, ByteSendError, NoCapacity, RemoteNotClearToSend}
+use Rattle.uart_run.proofs.Names.{StalledError, Path, Access, Read, Language, Settings, Only, Then, InOrder, Times, FewMisses, AllMisses}
+use Rattle.uart_run.proofs.Names.{Asks, Miss, ReadyToReceive, TryReceive, Receives, Awaited, ReceivesSome, filled, ReceivesExact}
+use Rattle.uart_run.proofs.Names.{HitWithErrors, ReceivesWithErrors, Received, only_bytes, LinesAllow, SendHit, SendRefused, SendMiss}
+use Rattle.uart_run.proofs.Names.{ReadyToSend, Burst, burst_size, burst_limit, Sends, Round, SendsSome, IsCut, SendsAll, SendsExact}
+use Rattle.uart_run.proofs.Names.{TrySends, WaitsFor, has_any, room, MachineState, MachineStep, has_one, is_quiet, Block, Look}
+use Rattle.uart_run.proofs.Names.{Hit as Hit_block, Other, accesses_of, AllQuiet, IsFit, AllFit, flat, written_in, read_in, data_written}
+use Rattle.uart_run.proofs.Names.{data_read, Modes, IsOpen, Stands, PassedBlocks, passed_blocks}
 use Rattle.std.proofs.Math.Seq.{take-append_seam}
-use Rattle.std.proofs.lemmas.List.{length-take, nil_from_length, take-append-drop}
-use Rattle.uart_spec.specs.declared.errors.ByteSendError.{ByteSendError}
-use Rattle.uart_spec.specs.declared.errors.ByteSendError.TheVariants.{NoCapacity, RemoteNotClearToSend}
-use Rattle.uart_spec.specs.declared.errors.StalledError.{StalledError}
 use Rattle.uart_spec.specs.declared.registers.offsets.TheConstants as offsets
 use Rattle.uart_spec.specs.declared.registers.line_status.TheConstants.LSR
 use Rattle.uart_spec.specs.declared.registers.modem_status.TheConstants.MSR
 use Rattle.uart_spec.specs.declared.registers.modem_control.TheConstants.MCR
-use Rattle.uart_spec.specs.Access.{Path}
-use Rattle.uart_spec.specs.declared.access.Access.{Access}
-use Rattle.uart_spec.specs.declared.access.Access.TheVariants.{Read}
-use Rattle.uart_16550.specs.Grammar.{Language, Settings, Only, Then, InOrder, Times, FewMisses, AllMisses, Asks}
-use Rattle.uart_16550.specs.Receive.{Hit, Miss, ReadyToReceive, TryReceive, Receives, Awaited, ReceivesSome, filled, ReceivesExact}
-use Rattle.uart_16550.specs.Receive.{HitWithErrors, ReceivesWithErrors}
-use Rattle.uart_spec.specs.declared.received.Received.{Received}
-use Rattle.uart_run.specs.Session.{only_bytes}
-use Rattle.uart_16550.specs.Transmit.{LinesAllow, SendHit, SendRefused, SendMiss, ReadyToSend, Burst, burst_size}
-use Rattle.uart_16550.specs.Transmit.{burst_limit, Sends, Round, SendsSome, IsCut, SendsAll, SendsExact, TrySends, WaitsFor}
-use Rattle.uart_spec.specs.Bits.{has_any}
-use Rattle.uart_chip.specs.Transmitter.{room}
-use Rattle.uart_chip.specs.Machine.{MachineState, MachineStep}
-use Rattle.uart_chip.proofs.Bits.{has_one}
-use Rattle.uart_chip.proofs.conservation.Blocks.{is_quiet, Block, Look, Hit as Hit_block, Burst as Burst_block, Other, accesses_of}
-use Rattle.uart_chip.proofs.conservation.Blocks.{AllQuiet, IsFit, AllFit, flat, written_in, read_in, data_written, data_read}
-use Rattle.uart_chip.proofs.conservation.Went.{Modes}
-use Rattle.uart_chip.proofs.conservation.BlockLaws.{IsOpen, Stands, PassedBlocks, passed_blocks}
+use Rattle.uart_16550.specs.Receive.{Hit}
+use Rattle.uart_chip.proofs.conservation.Blocks.{Burst as Burst_block}
 
 -- ---- accesses in blocks
 

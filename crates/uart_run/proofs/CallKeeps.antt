@@ -1,28 +1,13 @@
 -- What a call of a session does beside its bytes: its accesses are blocks, and what it read is saved.
-use Rattle.std.proofs.Common.{◌≡◌, ℕ, ◌≤◌, Bool, true, false, inl, inr, List, [], ◌∷◌, ◌++◌, take}
-use Rattle.std.proofs.Common.{append-nil, refl, arith, sym, ◌∙◌, ap, Result, Ok, Err, bit_or}
-use Rattle.std.proofs.lemmas.List.{nil_from_length}
-use lib.Bits.{or_zero_r}
-use Rattle.uart_spec.specs.declared.errors.RemoteReadyToReceiveError.{RemoteReadyToReceiveError}
-use Rattle.uart_spec.specs.declared.errors.StalledError.{StalledError}
+use Rattle.uart_run.proofs.Names.{◌≡◌, ℕ, ◌≤◌, Bool, true, false, inl, inr, List, [], ◌∷◌, ◌++◌, take, append-nil, refl, arith, sym, ◌∙◌}
+use Rattle.uart_run.proofs.Names.{ap, Result, Ok, Err, bit_or, nil_from_length, or_zero_r, RemoteReadyToReceiveError, StalledError}
+use Rattle.uart_run.proofs.Names.{saved_lsr, saved_msr, Access, Read, Write, Language, Settings, Only, Then, AllMisses, Fields, settings_of}
+use Rattle.uart_run.proofs.Names.{Saving, with_interrupts, SendMiss, Round, SendsEach, SendsBeginning, Keeps as Keeps_pattern}
+use Rattle.uart_run.proofs.Names.{KeepsPatterns, ChecksPresence, Reads, Writes, Flushes, AnswersRead, AnswersWrite, TakesLsr, TakesMsr}
+use Rattle.uart_run.proofs.Names.{Connects, ReadsDivisor, Enables, Disables, Retriggers, retrigger_accesses, Dumps, ConfigRegisterDump}
+use Rattle.uart_run.proofs.Names.{ShowsFifo, Sixteen, room, some_room, is_quiet, Look, Other, Divisor, AllQuiet}
 use Rattle.uart_spec.specs.declared.registers.offsets.TheConstants as offsets
 use Rattle.uart_spec.specs.declared.registers.line_status.TheConstants.LSR
-use Rattle.uart_spec.specs.Access.{saved_lsr, saved_msr}
-use Rattle.uart_spec.specs.declared.access.Access.{Access}
-use Rattle.uart_spec.specs.declared.access.Access.TheVariants.{Read, Write}
-use Rattle.uart_16550.specs.Grammar.{Language, Settings, Only, Then, AllMisses}
-use Rattle.uart_16550.specs.Driver.{Fields, settings_of, Saving, with_interrupts}
-use Rattle.uart_16550.specs.Transmit.{SendMiss, Round}
-use Rattle.uart_16550.specs.Expansion.{SendsEach, SendsBeginning}
-use Rattle.uart_16550.specs.Init.{Keeps as Keeps_pattern, KeepsPatterns, ChecksPresence}
-use Rattle.uart_16550.specs.Io.{Reads, Writes, Flushes, AnswersRead, AnswersWrite}
-use Rattle.uart_16550.specs.Status.{TakesLsr, TakesMsr, Connects, ReadsDivisor, Enables, Disables, Retriggers, retrigger_accesses, Dumps}
-use Rattle.uart_spec.specs.declared.dump.ConfigRegisterDump.{ConfigRegisterDump}
-use Rattle.uart_calls.specs.Meaning.{ShowsFifo}
-use Rattle.uart_spec.specs.declared.setup.FifoSize.TheVariants.{Sixteen}
-use Rattle.uart_chip.specs.Transmitter.{room}
-use Rattle.uart_chip.proofs.Sizes.{some_room}
-use Rattle.uart_chip.proofs.conservation.Blocks.{is_quiet, Look, Other, Divisor, AllQuiet}
 use Rattle.uart_run.proofs.CallBlocks.{InBlocks, blocks_none, blocks_one, blocks_then, most_in, Makes, makes_only_none}
 use Rattle.uart_run.proofs.CallBlocks.{makes_then, makes_all, makes_look, send_hit_blocks, send_miss_blocks, round_blocks}
 use Rattle.uart_run.proofs.CallBlocks.{sends_some_blocks, sends_some_none_blocks, waits_blocks, receives_some_blocks}

@@ -1,49 +1,21 @@
 -- What each call of a session does to the machine.
-use Rattle.std.proofs.Common.{◌≡◌, ◌≢◌, ℕ, ◌≤◌, ◌*◌, Bool, false, List, [], ◌∷◌, ◌++◌, Result, Ok, Err, refl}
-use Rattle.std.proofs.Common.{sym, ◌∙◌, ap, subst, take, length, arith, length-append, bit_or}
-use Rattle.std.proofs.lemmas.Grind.{common_steps}
-use Rattle.std.proofs.lemmas.List.{nil_from_length}
-use lib.Bits.{or_zero_r}
-use Rattle.uart_spec.specs.declared.errors.ByteSendError.{ByteSendError}
-use Rattle.uart_spec.specs.declared.errors.ByteReceiveError.{ByteReceiveError}
-use Rattle.uart_spec.specs.declared.errors.ConfigurationError.{ConfigurationError}
-use Rattle.uart_spec.specs.declared.errors.FifosOffError.{FifosOffError}
-use Rattle.uart_spec.specs.declared.errors.StalledError.{StalledError}
-use Rattle.uart_spec.specs.declared.registers.fifo_trigger_level.FifoTriggerLevel.{FifoTriggerLevel}
-use Rattle.uart_spec.specs.declared.registers.fifo_trigger_level.FifoTriggerLevel.TheVariants.{One}
+use Rattle.uart_run.proofs.Names.{◌≡◌, ◌≢◌, ℕ, ◌≤◌, ◌*◌, Bool, false, List, [], ◌∷◌, ◌++◌, Result, Ok, Err, refl, sym, ◌∙◌, ap, subst, take}
+use Rattle.uart_run.proofs.Names.{length, arith, length-append, bit_or, common_steps, nil_from_length, or_zero_r, ByteSendError}
+use Rattle.uart_run.proofs.Names.{ByteReceiveError, ConfigurationError, FifosOffError, StalledError, FifoTriggerLevel, One, Path, saved}
+use Rattle.uart_run.proofs.Names.{saved_lsr, saved_msr, Access, Write, Language, Settings, Doing, Did, Saving, Fields, fields, settings_of}
+use Rattle.uart_run.proofs.Names.{TryReceive, ReceivesExact, SendsExact, TrySends, TakesLsr, TakesMsr, Enables, Disables, Retriggers, Dumps}
+use Rattle.uart_run.proofs.Names.{SetsTrigger, level_bits, Reads, Writes, expansion, expansion_of, inner_of, Call, Answer, Done, Flag}
+use Rattle.uart_run.proofs.Names.{Count, Register, is_dlab_set, MachineStep, ShowsFifo, ChecksStored, SendsShortText, CalledAs}
+use Rattle.uart_run.proofs.Names.{connected_answer, receive_ready_answer, received_answer, sent_answer, exact_answer, count_answer}
+use Rattle.uart_run.proofs.Names.{ready_answer, latch_answer, bytes_answer, with_errors_answer, receive_exact_answer, read_answer}
+use Rattle.uart_run.proofs.Names.{BurstsFit, State, machine_of, CallStep, count_of, sent_of, sent_byte_of, byte_of, bytes_of, reported_by}
+use Rattle.uart_run.proofs.Names.{received_by, room, room_grows, IsLevel, Modes, dlab-in, passed-refl, passed-mark, IsOpen, Stands}
+use Rattle.uart_run.proofs.Names.{PassedBlocks, nothing_taken, path_as, passed_level}
 use Rattle.uart_spec.specs.declared.registers.offsets.TheConstants as offsets
 use Rattle.uart_spec.specs.declared.registers.line_status.TheConstants.LSR
-use Rattle.uart_spec.specs.Access.{Path, saved, saved_lsr, saved_msr}
-use Rattle.uart_spec.specs.declared.access.Access.{Access}
-use Rattle.uart_spec.specs.declared.access.Access.TheVariants.{Write}
-use Rattle.uart_16550.specs.Grammar.{Language, Settings}
-use Rattle.uart_16550.specs.Driver.{Doing, Did, Saving, Fields, fields, settings_of}
-use Rattle.uart_16550.specs.Receive.{TryReceive, ReceivesExact}
-use Rattle.uart_16550.specs.Transmit.{SendsExact, TrySends}
-use Rattle.uart_16550.specs.Status.{TakesLsr, TakesMsr, Enables, Disables, Retriggers, Dumps}
-use Rattle.uart_16550.specs.Setup.{SetsTrigger, level_bits}
-use Rattle.uart_16550.specs.Io.{Reads, Writes}
-use Rattle.uart_16550.specs.Expansion.{expansion, expansion_of}
-use Rattle.uart_16550.specs.Tty.{inner_of}
-use Rattle.uart_events.specs.declared.call.Call.{Call}
 use Rattle.uart_events.specs.declared.call.Call.TheVariants as call
-use Rattle.uart_events.specs.declared.call.Answer.{Answer}
-use Rattle.uart_events.specs.declared.call.Answer.TheVariants.{Done, Flag, Count, Register}
-use Rattle.uart_chip.specs.Chip.{is_dlab_set}
-use Rattle.uart_chip.specs.Machine.{MachineStep}
-use Rattle.uart_calls.specs.Meaning.{ShowsFifo, ChecksStored, SendsShortText, CalledAs, connected_answer, receive_ready_answer}
-use Rattle.uart_calls.specs.Meaning.{received_answer, sent_answer, exact_answer, count_answer}
-use Rattle.uart_calls.specs.Meaning.{ready_answer, latch_answer, bytes_answer, with_errors_answer, receive_exact_answer, read_answer}
-use Rattle.uart_run.specs.Ready.{BurstsFit}
-use Rattle.uart_run.specs.Run.{State, machine_of, CallStep}
-use Rattle.uart_run.specs.Session.{count_of, sent_of, sent_byte_of, byte_of, bytes_of, reported_by, received_by}
-use Rattle.uart_chip.specs.Transmitter.{room}
 use Rattle.uart_chip.proofs.Bits.{or_assoc}
-use Rattle.uart_chip.proofs.Sizes.{room_grows}
-use Rattle.uart_chip.proofs.conservation.Effects.{IsLevel}
-use Rattle.uart_chip.proofs.conservation.Went.{Modes, dlab-in, saved-append}
-use Rattle.uart_chip.proofs.conservation.Passed.{passed-refl, passed-mark}
-use Rattle.uart_chip.proofs.conservation.BlockLaws.{IsOpen, Stands, PassedBlocks, nothing_taken, path_as, passed_level}
+use Rattle.uart_chip.proofs.conservation.Went.{saved-append}
 use Rattle.uart_run.proofs.CallBlocks.{InBlocks, Makes, most_in, makes_look, passed_in_blocks, ready_to_send_blocks}
 use Rattle.uart_run.proofs.CallBlocks.{ready_to_receive_blocks, sends_blocks, sends_exact_blocks, try_sends_blocks}
 use Rattle.uart_run.proofs.CallBlocks.{try_receive_blocks, receives_blocks, receives_exact_blocks, receives_with_blocks}

@@ -1,7 +1,6 @@
 -- Calls in turn, whatever one call does.
-use Rattle.std.proofs.Common.{◌≡◌, ℕ, ◌+◌, ◌≤◌, ◌<◌, List, [], ◌∷◌, ◌++◌, length, take, get_or, refl, sym, ◌∙◌, ap, subst, slice_set}
-use Rattle.std.proofs.lemmas.List.{take_more, take_more_set, take_all, map-append}
-use Rattle.uart_run.specs.Chains.{LinkOf, ChainOf, RunOf}
+use Rattle.uart_run.proofs.Names.{◌≡◌, ℕ, ◌+◌, ◌≤◌, ◌<◌, List, [], ◌∷◌, ◌++◌, length, take, get_or, refl, sym, ◌∙◌, ap, subst, slice_set}
+use Rattle.uart_run.proofs.Names.{take_more, take_more_set, take_all, map-append, LinkOf, ChainOf, RunOf}
 
 -- calls in turn, and then one more
 record Ends {S C A : Type 0} (Step : S → C → A → S → Type 0) (s : S) (some : List (LinkOf S C A)) (last : LinkOf S C A) (t : S) :

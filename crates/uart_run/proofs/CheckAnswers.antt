@@ -1,43 +1,22 @@
 -- What `check_configured` answers over the machine: it is Ok exactly if the registers are as configured. So it is Ok after an `init` or an
 -- `init_with` that is done.
-use Rattle.std.proofs.Common.{◌≡◌, ℕ, ◌+◌, ◌*◌, Bool, true, false, inl, inr, List, [], ◌∷◌, refl, sym, ◌∙◌, ap, subst, bit_or}
-use Rattle.std.proofs.Common.{Ok, Err, arith, if◌then◌else◌}
-use Rattle.std.proofs.lemmas.Grind.{common_steps}
-use Rattle.bitflags.specs.Sets.{without}
-use Rattle.uart_spec.specs.Access.{Path}
-use Rattle.uart_spec.specs.Bits.{has, has_any}
-use Rattle.uart_spec.specs.Config.{IsComputable}
-use Rattle.uart_spec.specs.declared.access.Access.{Access}
-use Rattle.uart_spec.specs.declared.access.Access.TheVariants.{Read, Write}
-use Rattle.uart_spec.specs.declared.config.Config.{Config}
-use Rattle.uart_spec.specs.declared.errors.ConfigurationError.{ConfigurationError}
+use Rattle.uart_run.proofs.Names.{◌≡◌, ℕ, ◌+◌, ◌*◌, Bool, true, false, inl, inr, List, [], ◌∷◌, refl, sym, ◌∙◌, ap, subst, bit_or, Ok, Err}
+use Rattle.uart_run.proofs.Names.{arith, if◌then◌else◌, common_steps, without, Path, has, has_any, IsComputable, Access, Read, Write}
+use Rattle.uart_run.proofs.Names.{Config, ConfigurationError, Verdict, Shows, InTurn, ShowsFrame, ShowsOutputs, ShowsInterrupts, KeepsLine}
+use Rattle.uart_run.proofs.Names.{OpensLatch, IsDivisor, ReadsLatch, ShowsDivisor, fifo_look, ShowsFifos, ShowsAll, ChecksConfigured}
+use Rattle.uart_run.proofs.Names.{fields, settings_of, unlooped, Language, Settings, Only, DivisorOf, frame_bits, inner_of, Answer}
+use Rattle.uart_run.proofs.Names.{configured_answer, ChipState, answer, divisor, is_dlab_set, MachineState, MachineStep, at_access, has_and}
+use Rattle.uart_run.proofs.Names.{has_or, path_as, latches_of, IsConfigured, Checks, State, machine_of, CallStep}
 use Rattle.uart_spec.specs.declared.errors.ConfigurationError.TheVariants.{LineControl}
 use Rattle.uart_spec.specs.declared.registers.interrupt_status.TheConstants.ISR
 use Rattle.uart_spec.specs.declared.registers.line_control.TheConstants.LCR
 use Rattle.uart_spec.specs.declared.registers.modem_control.MCR.{MCR}
 use Rattle.uart_spec.specs.declared.registers.offsets.TheConstants as offsets
-use Rattle.uart_16550.specs.Configured.{Verdict, Shows, InTurn, ShowsFrame, ShowsOutputs, ShowsInterrupts, KeepsLine, OpensLatch, IsDivisor}
-use Rattle.uart_16550.specs.Configured.{ReadsLatch, ShowsDivisor, fifo_look, ShowsFifos, ShowsAll, ChecksConfigured}
-use Rattle.uart_16550.specs.Driver.{fields, settings_of}
-use Rattle.uart_16550.specs.Frame.{unlooped}
-use Rattle.uart_16550.specs.Grammar.{Language, Settings, Only}
-use Rattle.uart_16550.specs.Init.{DivisorOf, frame_bits}
-use Rattle.uart_16550.specs.Tty.{inner_of}
 use Rattle.uart_16550.proofs.determined.Init.{divisor_one, no_divisor}
-use Rattle.uart_events.specs.declared.call.Answer.{Answer}
 use Rattle.uart_events.specs.declared.call.Call.TheVariants as call
-use Rattle.uart_calls.specs.Meaning.{configured_answer}
-use Rattle.uart_chip.specs.Chip.{ChipState, answer, divisor, is_dlab_set}
-use Rattle.uart_chip.specs.Machine.{MachineState, MachineStep, at_access}
-use Rattle.uart_chip.proofs.Bits.{has_and, has_or}
-use Rattle.uart_chip.proofs.conservation.BlockLaws.{path_as}
-use Rattle.uart_run.specs.Ready.{latches_of, IsConfigured, Checks}
-use Rattle.uart_run.specs.Run.{State, machine_of, CallStep}
-use Rattle.uart_run.proofs.FrameLaws.{answer_low, answer_high}
+use Rattle.uart_run.proofs.{FrameLaws.answer_low, FrameLaws.answer_high, Pieces.then_parts, initialising.FifoShown.fifo_shown}
+use Rattle.uart_run.proofs.{initialising.Inits.frame-dlab}
 use Rattle.uart_run.proofs.Latches.{Kept, kept_in, keep, kept_after, kept_access, kept_step, kept_path, kept_list}
-use Rattle.uart_run.proofs.Pieces.{then_parts}
-use Rattle.uart_run.proofs.initialising.FifoShown.{fifo_shown}
-use Rattle.uart_run.proofs.initialising.Inits.{frame-dlab}
 
 -- ---- one check after another
 

@@ -1,32 +1,16 @@
 -- `check_configured` in a session: what it reads and writes moves no data, and leaves the modes as they are.
-use Rattle.std.proofs.Common.{◌≡◌, ℕ, ◌+◌, ◌*◌, true, false, inl, inr, List, [], ◌∷◌, ◌++◌, append_assoc, append-nil, refl, sym, ◌∙◌, ap}
-use Rattle.std.proofs.Common.{subst, bit_or, Ok, Err, arith}
-use Rattle.std.proofs.lemmas.Grind.{common_steps}
-use Rattle.uart_spec.specs.Access.{Path}
-use Rattle.uart_spec.specs.declared.access.Access.{Access}
-use Rattle.uart_spec.specs.declared.access.Access.TheVariants.{Read, Write}
-use Rattle.uart_spec.specs.declared.config.Config.{Config}
-use Rattle.uart_spec.specs.declared.errors.ConfigurationError.{ConfigurationError}
+use Rattle.uart_run.proofs.Names.{◌≡◌, ℕ, ◌+◌, ◌*◌, true, false, inl, inr, List, [], ◌∷◌, ◌++◌, append_assoc, append-nil, refl, sym, ◌∙◌}
+use Rattle.uart_run.proofs.Names.{ap, subst, bit_or, Ok, Err, arith, common_steps, Path, Access, Read, Write, Config, ConfigurationError}
+use Rattle.uart_run.proofs.Names.{Language, Settings, Then, unlooped, frame_bits, Verdict, Shows, InTurn, ShowsFrame, ShowsOutputs}
+use Rattle.uart_run.proofs.Names.{ShowsInterrupts, KeepsLine, OpensLatch, IsDivisor, ReadsLatch, ShowsDivisor, ShowsFifos, ShowsAll}
+use Rattle.uart_run.proofs.Names.{ChecksConfigured, ChipState, word_length, after_read, after_write, MachineState, MachineStep, at_access}
+use Rattle.uart_run.proofs.Names.{IsSoundChip, has_or, word_same, sound_access, sound_read, sound_write, is_quiet, AllQuiet, Modes, IsIn}
+use Rattle.uart_run.proofs.Names.{dlab, loopback, Went, went-read_latch, went-read_1, went-read_3, went-write_lcr, Passed, passed-trans}
+use Rattle.uart_run.proofs.Names.{passed-effect, IsOpen, Stands, PassedBlocks, nothing_taken, path_split, stands-after, relined}
+use Rattle.uart_run.proofs.Names.{passed_blocks-trans}
 use Rattle.uart_spec.specs.declared.registers.line_control.TheConstants.LCR
 use Rattle.uart_spec.specs.declared.registers.offsets.TheConstants as offsets
-use Rattle.uart_16550.specs.Grammar.{Language, Settings, Then}
-use Rattle.uart_16550.specs.Frame.{unlooped}
-use Rattle.uart_16550.specs.Init.{frame_bits}
-use Rattle.uart_16550.specs.Configured.{Verdict, Shows, InTurn, ShowsFrame, ShowsOutputs, ShowsInterrupts, KeepsLine, OpensLatch, IsDivisor}
-use Rattle.uart_16550.specs.Configured.{ReadsLatch, ShowsDivisor, ShowsFifos, ShowsAll, ChecksConfigured}
-use Rattle.uart_chip.specs.Chip.{ChipState, word_length, after_read, after_write}
-use Rattle.uart_chip.specs.Machine.{MachineState, MachineStep, at_access}
-use Rattle.uart_chip.specs.Sound.{IsSoundChip}
-use Rattle.uart_chip.proofs.Bits.{has_or, word_same}
-use Rattle.uart_chip.proofs.soundness.Sounds.{sound_access, sound_read, sound_write}
-use Rattle.uart_chip.proofs.conservation.Blocks.{is_quiet, AllQuiet}
-use Rattle.uart_chip.proofs.conservation.Went.{Modes, IsIn, dlab, loopback, Went}
-use Rattle.uart_chip.proofs.conservation.Effects.{went-read_latch, went-read_1, went-read_3, went-write_lcr}
-use Rattle.uart_chip.proofs.conservation.Passed.{Passed, passed-trans, passed-effect}
-use Rattle.uart_chip.proofs.conservation.BlockLaws.{IsOpen, Stands, PassedBlocks, nothing_taken, path_split, stands-after}
-use Rattle.uart_chip.proofs.conservation.BlockLaws.{relined, passed_blocks-trans}
-use Rattle.uart_run.proofs.CallBlocks.{passed_silently}
-use Rattle.uart_run.proofs.CallKeeps.{quiet_blocks}
+use Rattle.uart_run.proofs.{CallBlocks.passed_silently, CallKeeps.quiet_blocks}
 
 -- ---- accesses while the divisor latch is open
 

@@ -1,35 +1,15 @@
 -- That the registers are as configured after an `init` or an `init_with` that is done, so that `check_configured` is Ok.
-use Rattle.std.proofs.Common.{◌≡◌, ℕ, ◌<◌, Ok, sym, ◌∙◌, ap, subst, arith, bit_and}
-use Rattle.std.proofs.lemmas.Nat.{and_assoc, and_mask}
-use Rattle.std.proofs.lemmas.Grind.{common_steps}
-use Rattle.bitflags.specs.Sets.{without}
-use Rattle.uart_spec.specs.Bits.{IsWithin}
-use Rattle.uart_spec.specs.Config.{IsComputable}
-use Rattle.uart_spec.specs.declared.config.Config.{Config}
+use Rattle.uart_run.proofs.Names.{◌≡◌, ℕ, ◌<◌, Ok, sym, ◌∙◌, ap, subst, arith, bit_and, and_assoc, and_mask, common_steps, without}
+use Rattle.uart_run.proofs.Names.{IsWithin, IsComputable, Config, Setup, Verdict, ChecksConfigured, Did, fields, backend_of, Made}
+use Rattle.uart_run.proofs.Names.{DivisorOf, Inits, frame_bits, InitsWith, inner_of, Uart16550, divisor, MachineState, MachineStep}
+use Rattle.uart_run.proofs.Names.{ier_bits, mcr_bits, IsSound, IsInitialised, IsSetUp, IsConfigured, latches_of, under_terminal, State}
+use Rattle.uart_run.proofs.Names.{machine_of, within_any}
 use Rattle.uart_spec.specs.declared.registers.line_control.TheConstants.LCR
-use Rattle.uart_spec.specs.declared.registers.line_status.TheConstants.LSR
 use Rattle.uart_spec.specs.declared.registers.modem_control.TheConstants.MCR
-use Rattle.uart_spec.specs.declared.setup.Setup.{Setup}
-use Rattle.uart_16550.specs.Configured.{Verdict, ChecksConfigured}
-use Rattle.uart_16550.specs.Driver.{Did, fields, backend_of, Made}
-use Rattle.uart_16550.specs.Init.{DivisorOf, Inits, frame_bits}
-use Rattle.uart_16550.specs.Setup.{InitsWith}
-use Rattle.uart_16550.specs.Tty.{inner_of}
-use Rattle.uart_16550.specs.declared.driver.Uart16550.{Uart16550}
-use Rattle.uart_chip.specs.Chip.{divisor}
-use Rattle.uart_chip.specs.Machine.{MachineState, MachineStep}
-use Rattle.uart_chip.specs.Masks.{ier_bits, mcr_bits}
-use Rattle.uart_chip.specs.Sound.{IsSound}
-use Rattle.uart_run.specs.Ready.{IsInitialised, IsSetUp, IsConfigured, latches_of}
-use Rattle.uart_run.specs.ReceivedErrors.{under_terminal}
-use Rattle.uart_run.specs.Run.{State, machine_of}
-use Rattle.uart_run.proofs.CheckAnswers.{check_found}
-use Rattle.uart_run.proofs.OutputLaws.{within_unlooped}
+use Rattle.uart_run.proofs.{CheckAnswers.check_found, OutputLaws.within_unlooped, initialising.Inits.frame-low}
+use Rattle.uart_run.proofs.{initialising.Stored.init_stores, initialising.Stored.init_with_stores}
 use Rattle.uart_run.proofs.initialising.Initialised as initialised
-use Rattle.uart_run.proofs.initialising.Inits.{frame-low}
 use Rattle.uart_run.proofs.initialising.SetUp as arranged
-use Rattle.uart_run.proofs.initialising.Stored.{init_stores, init_with_stores}
-use Rattle.uart_chip.proofs.McrBits.{within_any}
 
 -- ---- the registers
 

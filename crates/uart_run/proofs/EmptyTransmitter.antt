@@ -1,26 +1,13 @@
 -- An empty transmitter: while no byte is written it stays empty, in loopback or not, and the wire stays as it is.
-use Rattle.std.proofs.Common.{◌≡◌, ℕ, ◌%◌, ◌/◌, Bool, true, false, List, [], ◌∷◌, ◌++◌, append-nil, Option, Some, None, refl, sym, ◌∙◌, ap}
-use Rattle.std.proofs.Common.{bit_or, arith}
-use Rattle.std.proofs.lemmas.Grind.{common_steps}
+use Rattle.uart_run.proofs.Names.{◌≡◌, ℕ, ◌%◌, ◌/◌, Bool, true, false, List, [], ◌∷◌, ◌++◌, append-nil, Option, Some, None, refl, sym, ◌∙◌}
+use Rattle.uart_run.proofs.Names.{ap, bit_or, arith, common_steps, Path, Access, Read, Write, Settings, Asks, frame_writes, line_writes}
+use Rattle.uart_run.proofs.Names.{WaitsFor, Shifting, has_any, TransmitterState, shift, refill, out, line_status, is_transmitter_empty}
+use Rattle.uart_run.proofs.Names.{is_dlab_set, MachineState, MachineStep, at_access, has_one, has_or, status_empty, Lasts, AllSendNothing}
+use Rattle.uart_run.proofs.Names.{lasts-path, lasts-latch, lasts-before, path_as, path_split}
 use Rattle.uart_spec.specs.declared.registers.line_control.TheConstants.LCR
 use Rattle.uart_spec.specs.declared.registers.offsets.TheConstants as offsets
 use Rattle.uart_spec.specs.declared.registers.line_status.TheConstants.LSR
-use Rattle.uart_spec.specs.Access.{Path}
-use Rattle.uart_spec.specs.declared.access.Access.{Access}
-use Rattle.uart_spec.specs.declared.access.Access.TheVariants.{Read, Write}
-use Rattle.uart_16550.specs.Grammar.{Settings, Asks}
-use Rattle.uart_16550.specs.Frame.{frame_writes}
-use Rattle.uart_16550.specs.Init.{line_writes}
-use Rattle.uart_16550.specs.Transmit.{WaitsFor}
-use Rattle.uart_chip.specs.declared.transmitter.Shifting.{Shifting}
-use Rattle.uart_spec.specs.Bits.{has_any}
-use Rattle.uart_chip.specs.Transmitter.{TransmitterState, shift, refill, tick, out}
-use Rattle.uart_chip.specs.Chip.{line_status, is_transmitter_empty, is_dlab_set}
-use Rattle.uart_chip.specs.Machine.{MachineState, MachineStep, at_access}
-use Rattle.uart_chip.proofs.Bits.{has_one, has_or}
-use Rattle.uart_chip.proofs.statuses.Status.{status_empty}
-use Rattle.uart_chip.proofs.lasting.Lasting.{Lasts, AllSendNothing, lasts-path, lasts-latch, lasts-before}
-use Rattle.uart_chip.proofs.conservation.BlockLaws.{path_as, path_split}
+use Rattle.uart_chip.specs.Transmitter.{tick}
 use Rattle.uart_run.proofs.Latches.{Kept, kept_access}
 
 -- nothing is left to send

@@ -1,45 +1,20 @@
 -- That received bytes have exactly the errors that they arrived with.
-use Rattle.std.proofs.Common.{◌≡◌, ◌⊎◌, ◌<◌, ◌+◌, ℕ, Bool, true, false, inl, inr, List, [], ◌∷◌, ◌++◌, length, nat_lt, refl, arith, sym}
-use Rattle.std.proofs.Common.{◌∙◌, ap, subst, append-nil, append_assoc, Option, None, bit_and, bit_or, if◌then◌else◌, ◌==◌, ◌&&◌}
-use Rattle.std.specs.List.{list_any}
-use Rattle.std.proofs.lemmas.Grind.{common_steps}
+use Rattle.uart_run.proofs.Names.{◌≡◌, ◌<◌, ◌+◌, ℕ, Bool, true, false, inl, inr, List, [], ◌∷◌, ◌++◌, length, nat_lt, refl, arith, sym, ◌∙◌}
+use Rattle.uart_run.proofs.Names.{ap, subst, append-nil, append_assoc, Option, None, bit_and, bit_or, if◌then◌else◌, ◌==◌, ◌&&◌, list_any}
+use Rattle.uart_run.proofs.Names.{common_steps, and_assoc, or_comm, or_zero_r, and_zero_r, Path, has_any, flag, IsWithin, Access, Read}
+use Rattle.uart_run.proofs.Names.{Settings, InOrder, Made, backend_of, fields, HitWithErrors, ReceivesWithErrors, Received, Uart16550}
+use Rattle.uart_run.proofs.Names.{FifoSize, Character, Arrived, room, ReceiverState, enter, report, front_errors, unreported, has_errors}
+use Rattle.uart_run.proofs.Names.{ChipState, is_dlab_set, is_transmitter_empty, line_status, MachineState, MachineStep, at_access, IsSound}
+use Rattle.uart_run.proofs.Names.{reported_front, and_or, has_and, has_one, Told, FrontTold, Modes, dlab-in, loopback-in, Passed}
+use Rattle.uart_run.proofs.Names.{passed-refl, passed-trans, passed-access, IsOpen, Stands, stands-after, path_as, path_split, passed-look}
+use Rattle.uart_run.proofs.Names.{look_data, look_reported, Took, took, taken_entered, Ready, FlagTells, LeavesReceiver, OverrunsTell}
+use Rattle.uart_run.proofs.Names.{OverrunsStand, character_errors, IsShown, AreShown, ReceivedExactly, under_terminal}
 use Rattle.std.specs.Int.Bits.{and_self}
-use Rattle.std.proofs.lemmas.Nat.{and_assoc, or_comm}
-use lib.Bits.{or_zero_r, and_zero_r}
-use Rattle.uart_spec.specs.Access.{Path}
-use Rattle.uart_spec.specs.Bits.{has_any, flag, IsWithin}
-use Rattle.uart_spec.specs.declared.access.Access.{Access}
-use Rattle.uart_spec.specs.declared.access.Access.TheVariants.{Read}
 use Rattle.uart_spec.specs.declared.registers.line_status.TheConstants.LSR
 use Rattle.uart_spec.specs.declared.registers.offsets.TheConstants as offsets
-use Rattle.uart_16550.specs.Grammar.{Settings, InOrder}
-use Rattle.uart_16550.specs.Driver.{Made, backend_of, fields}
-use Rattle.uart_16550.specs.Receive.{HitWithErrors, ReceivesWithErrors}
-use Rattle.uart_spec.specs.declared.received.Received.{Received}
-use Rattle.uart_16550.specs.declared.driver.Uart16550.{Uart16550}
-use Rattle.uart_spec.specs.declared.setup.FifoSize.{FifoSize}
-use Rattle.uart_chip.specs.declared.receiver.Character.{Character}
-use Rattle.uart_chip.specs.declared.receiver.Origin.TheVariants.{Arrived}
-use Rattle.uart_chip.specs.Transmitter.{room}
 use Rattle.uart_chip.specs.Receiver as receiver
-use Rattle.uart_chip.specs.Receiver.{ReceiverState, enter, report, front_errors, unreported, has_errors}
-use Rattle.uart_chip.specs.Chip.{ChipState, is_dlab_set, is_transmitter_empty, line_status}
-use Rattle.uart_chip.specs.Machine.{MachineState, MachineStep, at_access}
-use Rattle.uart_chip.specs.Sound.{IsSound}
-use Rattle.uart_chip.specs.Laws.{reported_front}
-use Rattle.uart_chip.proofs.Bits.{and_or, has_and, has_one}
-use Rattle.uart_chip.proofs.statuses.Reports.{Told, FrontTold}
-use Rattle.uart_chip.proofs.conservation.Went.{Modes, dlab-in, loopback-in}
-use Rattle.uart_chip.proofs.conservation.Passed.{Passed, passed-refl, passed-trans, passed-access}
-use Rattle.uart_chip.proofs.conservation.BlockLaws.{IsOpen, Stands, stands-after, path_as, path_split, passed-look, look_data}
-use Rattle.uart_chip.proofs.conservation.BlockLaws.{look_reported, Took, took}
-use Rattle.uart_chip.proofs.conservation.SessionLaws.{taken_entered}
-use Rattle.uart_run.specs.Ready.{Ready}
-use Rattle.uart_run.specs.Overruns.{FlagTells, LeavesReceiver, OverrunsTell, OverrunsStand}
-use Rattle.uart_run.specs.ReceivedErrors.{character_errors, IsShown, AreShown, ReceivedExactly, under_terminal}
-use Rattle.uart_run.proofs.Between.{access_lasts}
+use Rattle.uart_run.proofs.{Between.access_lasts, SessionCalls.modes_of, SessionCalls.in_session}
 use Rattle.uart_run.proofs.Overruns.{Behind, HitTells, hit_tells, lost_stays, Looked, looked, flag_lasts, tells_later}
-use Rattle.uart_run.proofs.SessionCalls.{modes_of, in_session}
 
 -- ---- with the FIFO the front stays until it is taken
 

@@ -1,30 +1,16 @@
 -- Runs: each call of one follows what is promised of it alone, and each session in it conserves.
-use Rattle.std.proofs.Common.{List, [], ◌∷◌, sym, subst}
-use Rattle.uart_16550.specs.Driver.{fields, settings_of}
-use Rattle.uart_16550.specs.Tty.{inner_of}
-use Rattle.uart_events.specs.declared.call.Call.{Call}
+use Rattle.uart_run.proofs.Names.{List, [], ◌∷◌, sym, subst, fields, settings_of, inner_of, Call, Answer, IsSound, State, machine_of, Link}
+use Rattle.uart_run.proofs.Names.{Chain, CallStep, IsRun, ComesTo, IsTimely, Succeeds, Follows, AllFollow, Ran}
 use Rattle.uart_events.specs.declared.call.Call.TheVariants as call
-use Rattle.uart_events.specs.declared.call.Answer.{Answer}
-use Rattle.uart_chip.specs.Sound.{IsSound}
-use Rattle.uart_run.specs.Run.{State, machine_of, Link, Chain, CallStep, IsRun}
-use Rattle.uart_run.specs.Ready.{ComesTo}
-use Rattle.uart_run.specs.Progress.{IsTimely, Succeeds}
-use Rattle.uart_run.specs.Session.{Follows, AllFollow, Ran}
 use Rattle.uart_run.proofs.Sessions.{session_conserves, lasts_call, lasts_wired, sound_call, sound_chain}
-use Rattle.uart_run.proofs.FrameLaws.{frames, attach_takes, attach_finds}
-use Rattle.uart_run.proofs.SetupLaws.{frames_when_idle, levels, quiets, restores}
-use Rattle.uart_run.proofs.OutputLaws.{sets_outputs, switches_rts, switches_dtr}
-use Rattle.uart_run.proofs.CheckAnswers.{checks}
-use Rattle.uart_run.proofs.initialising.SetUp.{arranges}
-use Rattle.uart_run.proofs.initialising.Initialised.{initialises}
-use Rattle.uart_run.proofs.loopback.LoopTests.{tested}
-use Rattle.uart_run.proofs.SizeKept.{size_kept, sizes_kept, checks_kept, fits_kept}
-use Rattle.uart_run.proofs.ReadyKept.{follows_ready}
-use Rattle.uart_run.proofs.progress.Timely.{timely_kept, flow_kept}
+use Rattle.uart_run.proofs.{FrameLaws.frames, FrameLaws.attach_takes, FrameLaws.attach_finds, SetupLaws.frames_when_idle, SetupLaws.levels}
+use Rattle.uart_run.proofs.{SetupLaws.quiets, SetupLaws.restores, OutputLaws.sets_outputs, OutputLaws.switches_rts, OutputLaws.switches_dtr}
+use Rattle.uart_run.proofs.{CheckAnswers.checks, initialising.SetUp.arranges, initialising.Initialised.initialises}
+use Rattle.uart_run.proofs.{loopback.LoopTests.tested, SizeKept.size_kept, SizeKept.sizes_kept, SizeKept.checks_kept, SizeKept.fits_kept}
+use Rattle.uart_run.proofs.{ReadyKept.follows_ready, progress.Timely.timely_kept, progress.Timely.flow_kept}
+use Rattle.uart_run.proofs.{initialising.InitSucceeds.init_succeeds, loopback.LoopSucceeds.test_succeeds}
 use Rattle.uart_run.proofs.progress.Succeeds.{flush_succeeds, write_succeeds, send_exact_succeeds, text_succeeds}
-use Rattle.uart_run.proofs.initialising.InitSucceeds.{init_succeeds}
 use Rattle.uart_run.proofs.initialising.InitWithSucceeds.{init_with_succeeds, frame_when_idle_succeeds}
-use Rattle.uart_run.proofs.loopback.LoopSucceeds.{test_succeeds}
 
 -- what a call comes to
 comes_to : (s t : State) (call : Call) (a : Answer) → IsSound (machine_of s) → CallStep s call a t → ComesTo s call a t

@@ -1,71 +1,34 @@
 -- What a call does in a session that may change its modes: a `set_frame` writes LCR, a `set_modem_control` MCR.
-use Rattle.std.proofs.Common.{◌≡◌, ◌≢◌, ℕ, Bool, true, false, List, [], ◌∷◌, ◌++◌, ◌%◌, ◌/◌, map, refl, sym, ◌∙◌, ap, subst, bit_or, arith}
-use Rattle.std.proofs.Common.{append-nil, Result, Ok, Err, ◌<◌, ◌+◌, ◌*◌}
-use Rattle.std.proofs.lemmas.Bool.{false≢true}
-use Rattle.std.proofs.lemmas.Nat.{and_assoc}
-use Rattle.std.proofs.lemmas.List.{map-append}
-use Rattle.std.proofs.lemmas.Grind.{common_steps}
-use Rattle.std.proofs.Math.Nat.{div-add-mod}
+use Rattle.uart_run.proofs.Names.{◌≡◌, ◌≢◌, ℕ, Bool, true, false, List, [], ◌∷◌, ◌++◌, ◌%◌, ◌/◌, map, refl, sym, ◌∙◌, ap, subst, bit_or}
+use Rattle.uart_run.proofs.Names.{arith, append-nil, Result, Ok, Err, ◌<◌, ◌+◌, ◌*◌, false≢true, and_assoc, map-append, common_steps}
+use Rattle.uart_run.proofs.Names.{div-add-mod, Path, saved_lsr, saved_msr, Access, Read, Write, has, has_any, Config, FrameError}
+use Rattle.uart_run.proofs.Names.{InvalidDivisorError, Keep, Reset, Disable, Call, Answer, Latch, AttachRefused, Settings, Only, Asks, Did}
+use Rattle.uart_run.proofs.Names.{Fields, fields, settings_of, saving, Sets, Saving, Next, with_fifo, DivisorOf, frame_bits, frame_writes}
+use Rattle.uart_run.proofs.Names.{with_frame, SetsFrame, switched, unlooped, SetsBreak, SetsControl, SetsOutput, SetsFrameWhenIdle}
+use Rattle.uart_run.proofs.Names.{Quiesces, WaitsFor, FindsLatch, FindsLoopback, FindsDivisor, FindsPort, Attaches, ReadsDivisor}
+use Rattle.uart_run.proofs.Names.{divisor_accesses, AttachError, DivisorLatchOpen, Loopback, NoDivisor, kept_mcr, kept_bit, inner_of}
+use Rattle.uart_run.proofs.Names.{frame_answer, attach_answer, Character, ChipState, answer, divisor, is_dlab_set, is_loopback, word_length}
+use Rattle.uart_run.proofs.Names.{MachineState, MachineStep, at_access, has_or, has_and, has_not, has_one, Modes, fixed, Passed}
+use Rattle.uart_run.proofs.Names.{passed-refl, passed-trans, IsOpen, PassedBlocks, nothing_taken, passed_frame, relined, path_as}
+use Rattle.uart_run.proofs.Names.{stands-after, passed_quiet, is_quiet, State, machine_of, Link, CallStep, Ready, BurstsFit, Frames}
+use Rattle.uart_run.proofs.Names.{IsAttached, TakesPort, latches_of, IsWithinSession, reported_by, received_by, IsWithinUncut, IsWired}
 use Rattle.std.proofs.Math.Bool.{or-false}
-use Rattle.uart_spec.specs.Access.{Path, saved_lsr, saved_msr}
-use Rattle.uart_spec.specs.declared.access.Access.{Access}
-use Rattle.uart_spec.specs.declared.access.Access.TheVariants.{Read, Write}
-use Rattle.uart_spec.specs.Bits.{has, has_any}
-use Rattle.uart_spec.specs.declared.config.Config.{Config}
-use Rattle.uart_spec.specs.declared.errors.FrameError.{FrameError}
 use Rattle.uart_spec.specs.declared.errors.FrameError.TheVariants.{InvalidBaudRate, Stalled}
-use Rattle.uart_spec.specs.declared.errors.InvalidDivisorError.{InvalidDivisorError}
 use Rattle.uart_spec.specs.declared.registers.line_control.TheConstants.LCR
 use Rattle.uart_spec.specs.declared.registers.offsets.TheConstants as offsets
-use Rattle.uart_spec.specs.declared.setup.FifoAction.TheVariants.{Keep, Reset, Disable}
-use Rattle.uart_events.specs.declared.call.Call.{Call}
 use Rattle.uart_events.specs.declared.call.Call.TheVariants as call
-use Rattle.uart_events.specs.declared.call.Answer.{Answer}
-use Rattle.uart_events.specs.declared.call.Answer.TheVariants.{Latch, AttachRefused}
-use Rattle.uart_16550.specs.Grammar.{Settings, Only, Asks}
-use Rattle.uart_16550.specs.Driver.{Did, Fields, fields, settings_of, saving, Sets, Saving, Next, with_fifo}
-use Rattle.uart_16550.specs.Init.{DivisorOf, frame_bits}
-use Rattle.uart_16550.specs.Frame.{frame_writes, with_frame, SetsFrame, switched, unlooped, SetsBreak, SetsControl, SetsOutput}
-use Rattle.uart_16550.specs.Setup.{SetsFrameWhenIdle, Quiesces}
-use Rattle.uart_16550.specs.Transmit.{WaitsFor}
-use Rattle.uart_16550.specs.Attach.{FindsLatch, FindsLoopback, FindsDivisor, FindsPort, Attaches}
-use Rattle.uart_16550.specs.Status.{ReadsDivisor, divisor_accesses}
-use Rattle.uart_spec.specs.declared.errors.AttachError.{AttachError}
-use Rattle.uart_spec.specs.declared.errors.AttachError.TheVariants.{DivisorLatchOpen, Loopback, NoDivisor}
 use Rattle.uart_spec.specs.declared.registers.interrupt_status.TheConstants.ISR
 use Rattle.uart_spec.specs.declared.registers.line_status.TheConstants.LSR
 use Rattle.uart_spec.specs.declared.registers.modem_control.TheConstants.MCR
 use Rattle.uart_spec.specs.declared.registers.modem_status.TheConstants.MSR
-use Rattle.uart_chip.specs.Masks.{kept_mcr}
-use Rattle.uart_chip.proofs.McrBits.{kept_bit}
-use Rattle.uart_16550.specs.Tty.{inner_of}
-use Rattle.uart_calls.specs.Meaning.{frame_answer, attach_answer}
-use Rattle.uart_chip.specs.declared.receiver.Character.{Character}
-use Rattle.uart_chip.specs.Chip.{ChipState, answer, divisor, is_dlab_set, is_loopback, word_length}
-use Rattle.uart_chip.specs.Machine.{MachineState, MachineStep, at_access}
-use Rattle.uart_chip.proofs.Bits.{has_or, has_and, has_not, has_one}
-use Rattle.uart_chip.proofs.conservation.Went.{Modes, fixed}
-use Rattle.uart_chip.proofs.conservation.Passed.{Passed, passed-refl, passed-trans}
-use Rattle.uart_chip.proofs.conservation.BlockLaws.{IsOpen, PassedBlocks, nothing_taken, passed_frame, relined, path_as, stands-after}
-use Rattle.uart_chip.proofs.conservation.BlockLaws.{passed_quiet}
-use Rattle.uart_chip.proofs.conservation.Blocks.{is_quiet}
-use Rattle.uart_run.specs.Run.{State, machine_of, Link, CallStep}
-use Rattle.uart_run.specs.Ready.{Ready, BurstsFit, Frames, IsAttached, TakesPort, latches_of}
-use Rattle.uart_run.specs.Session.{IsWithinSession, reported_by, received_by}
-use Rattle.uart_run.specs.Uncut.{IsWithinUncut}
-use Rattle.uart_run.specs.Wired.{IsWired}
-use Rattle.uart_run.proofs.Wired.{wired_step, passed_mcr}
+use Rattle.uart_run.proofs.{Wired.wired_step, Wired.passed_mcr, Pieces.then_parts, Pieces.next_stages, initialising.FifoShown.fifo_shown}
+use Rattle.uart_run.proofs.{NeverSwitched.stays as stays_so, SizeKept.left_ever, SizeKept.keeps_size, SizeKept.fits_after}
+use Rattle.uart_run.proofs.{SizeKept.fits_kept, CallKeeps.reads_divisor_blocks, CallKeeps.saving_keeps, initialising.Inits.frame-dlab}
+use Rattle.uart_run.proofs.{initialising.Inits.frame-unbroken, initialising.Initialised.ready_by}
 use Rattle.uart_run.proofs.Latches.{Kept, kept_in, keep, kept_after, kept_step, kept_path, kept_list, kept_access}
-use Rattle.uart_run.proofs.Pieces.{then_parts, next_stages}
-use Rattle.uart_run.proofs.initialising.FifoShown.{fifo_shown}
-use Rattle.uart_run.proofs.NeverSwitched.{stays as stays_so}
 use Rattle.uart_run.proofs.built.SettingUp as built
-use Rattle.uart_run.proofs.SizeKept.{left_ever, keeps_size, fits_after, fits_kept}
 use Rattle.uart_run.proofs.CallBlocks.{Makes, most_in, makes_quiet, makes_then, passed_silently, waits_blocks}
-use Rattle.uart_run.proofs.CallKeeps.{reads_divisor_blocks, saving_keeps}
 use Rattle.uart_run.proofs.CallLaws.{Passes, InSession, session_closed, passes_call, passes_did, passes_quietly, saved_both}
-use Rattle.uart_run.proofs.initialising.Inits.{frame-dlab, frame-unbroken}
-use Rattle.uart_run.proofs.initialising.Initialised.{ready_by}
 
 -- ---- modes that may change
 

@@ -1,17 +1,9 @@
 -- Lists that change nothing of what the registers keep while DLAB is off: they read, and of writes have only those of the data register.
-use Rattle.std.proofs.Common.{◌≡◌, ℕ, ◌==◌, Bool, true, false, List, [], ◌∷◌, refl, ◌∙◌, ap, if◌then◌else◌}
-use Rattle.std.proofs.lemmas.Bool.{eqb-true}
-use Rattle.std.specs.List.{AllByRecursion}
+use Rattle.uart_run.proofs.Names.{◌≡◌, ℕ, ◌==◌, Bool, true, false, List, [], ◌∷◌, refl, ◌∙◌, ap, if◌then◌else◌, eqb-true, AllByRecursion}
+use Rattle.uart_run.proofs.Names.{Path, Access, Read, Write, Language, Settings, is_dlab_set, MachineState, MachineStep}
 use Rattle.uart_spec.specs.declared.registers.offsets.TheConstants as offsets
-use Rattle.uart_spec.specs.Access.{Path}
-use Rattle.uart_spec.specs.declared.access.Access.{Access}
-use Rattle.uart_spec.specs.declared.access.Access.TheVariants.{Read, Write}
-use Rattle.uart_16550.specs.Grammar.{Language, Settings}
-use Rattle.uart_chip.specs.Chip.{is_dlab_set}
-use Rattle.uart_chip.specs.Machine.{MachineState, MachineStep}
-use Rattle.uart_run.proofs.ListsInTurn.{HoldsOfAll}
-use Rattle.uart_run.proofs.Latches.{Kept, kept_in, keep, kept_after, kept_path}
-use Rattle.uart_run.proofs.built.Words.{Kinds, Built, all_pass, each_such}
+use Rattle.uart_run.proofs.{ListsInTurn.HoldsOfAll, Latches.Kept, Latches.kept_in, Latches.keep, Latches.kept_after, Latches.kept_path}
+use Rattle.uart_run.proofs.{built.Words.Kinds, built.Words.Built, built.Words.all_pass, built.Words.each_such}
 
 -- a read, or a write of the data register
 abbrev pub IsPlainAccess : Access → Type 0

@@ -1,21 +1,11 @@
 -- What the registers keep: the writes alone tell of it, whatever events come between them.
-use Rattle.std.proofs.Common.{◌≡◌, ℕ, zero, suc, Bool, true, false, ◌==◌, List, [], ◌∷◌, ◌++◌, refl, ◌∙◌, ap, bit_and, if◌then◌else◌}
-use Rattle.uart_events.specs.declared.event.Chip.{Chip}
-use Rattle.uart_events.specs.declared.event.Chip.TheVariants.{Uart16550A, Uart16450}
-use Rattle.uart_events.specs.declared.event.Event.{Event}
-use Rattle.uart_events.specs.declared.event.Event.TheVariants.{Ticks, Access as Gate, Mark}
-use Rattle.uart_spec.specs.Access.{Path}
-use Rattle.uart_spec.specs.declared.access.Access.{Access}
-use Rattle.uart_spec.specs.declared.access.Access.TheVariants.{Read, Write}
-use Rattle.uart_16550.specs.Driver.{Fields}
-use Rattle.uart_spec.specs.Bits.{has_any}
+use Rattle.uart_run.proofs.Names.{◌≡◌, ℕ, zero, suc, Bool, true, false, ◌==◌, List, [], ◌∷◌, ◌++◌, refl, ◌∙◌, ap, bit_and, if◌then◌else◌}
+use Rattle.uart_run.proofs.Names.{Chip, Uart16550A, Uart16450, Event, Ticks, Gate, Mark, Path, Access, Read, Write, Fields, has_any}
+use Rattle.uart_run.proofs.Names.{ier_bits, kept_mcr, LatchesState, ChipState, word_length, cut_to, is_dlab_set, ticks, after_read}
+use Rattle.uart_run.proofs.Names.{after_write, switch, is_same, set_fifo, control, ReadMove, takes, read_move, resets_last, MachineState}
+use Rattle.uart_run.proofs.Names.{MachineStep, perform, before_access, at_access, before_mark, at_mark}
 use Rattle.uart_spec.specs.declared.registers.fifo_control.TheConstants.FCR
 use Rattle.uart_spec.specs.declared.registers.offsets.TheConstants as offsets
-use Rattle.uart_chip.specs.Masks.{ier_bits, kept_mcr}
-use Rattle.uart_chip.specs.Chip.{LatchesState, ChipState, word_length, cut_to, is_dlab_set, ticks, after_read, after_write, switch, is_same}
-use Rattle.uart_chip.specs.Chip.{set_fifo, control}
-use Rattle.uart_chip.proofs.AccessMoves.{ReadMove, takes, read_move, resets_last}
-use Rattle.uart_chip.specs.Machine.{MachineState, MachineStep, perform, before_access, at_access, before_mark, at_mark}
 
 -- what is kept until it is written: the latches, and whether the FIFO is on; and the model and the options, which are never written
 pub record Kept : Type 0 where

@@ -1,3 +1,4 @@
+mod Names
 pub mod Chains
 pub mod EmptyTransmitter
 pub mod Latches

@@ -1,8 +1,6 @@
 -- What holds of all lists of a language, or of all that a call does, since it holds of those of its parts.
-use Rattle.std.proofs.Common.{ℕ, zero, suc, List, [], ◌∷◌, ◌++◌}
-use Rattle.uart_spec.specs.declared.access.Access.{Access}
-use Rattle.uart_16550.specs.Grammar.{Language, Settings, Only, Then, InOrder, Times, FewMisses, AllMisses}
-use Rattle.uart_16550.specs.Driver.{Doing, Fields, Saving, Plain, Sets, Next, settings_of}
+use Rattle.uart_run.proofs.Names.{ℕ, zero, suc, List, [], ◌∷◌, ◌++◌, Access, Language, Settings, Only, Then, InOrder, Times, FewMisses}
+use Rattle.uart_run.proofs.Names.{AllMisses, Doing, Fields, Saving, Plain, Sets, Next, settings_of}
 
 -- it holds of no accesses, and of two lists in turn if it holds of both
 pub record HoldsInTurn (P : List Access → Type 0) : Type 0 where

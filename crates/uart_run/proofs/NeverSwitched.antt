@@ -1,49 +1,24 @@
 -- No call of a run switches the size of the FIFOs: it writes no FCR, or writes it only while DLAB is clear.
-use Rattle.std.proofs.Common.{not, ◌≡◌, ℕ, ◌==◌, ◌&&◌, ◌||◌, Bool, true, false, Option, List, [], ◌∷◌, ◌++◌, map, Result, Ok, Err}
-use Rattle.std.proofs.Common.{inl, inr, refl, sym, ap, subst, arith, if◌then◌else◌}
-use Rattle.std.proofs.lemmas.Grind.{common_steps}
-use Rattle.std.specs.List.{AllByRecursion}
-use Rattle.bitflags.specs.Sets.{without}
-use Rattle.uart_spec.specs.Bits.{has_any}
-use Rattle.uart_spec.specs.Dump.{divisor_of}
-use Rattle.uart_spec.specs.declared.access.Access.{Access}
-use Rattle.uart_spec.specs.declared.access.Access.TheVariants.{Read, Write}
-use Rattle.uart_spec.specs.declared.config.Config.{Config}
-use Rattle.uart_spec.specs.declared.dump.ConfigRegisterDump.{ConfigRegisterDump}
-use Rattle.uart_spec.specs.declared.errors.InitError.{InitError}
-use Rattle.uart_spec.specs.declared.errors.InitError.TheVariants.{InvalidBaudRate, DeviceNotPresent, Stalled}
-use Rattle.uart_spec.specs.declared.registers.fifo_trigger_level.FifoTriggerLevel.{FifoTriggerLevel}
+use Rattle.uart_run.proofs.Names.{not, ◌≡◌, ℕ, ◌==◌, ◌&&◌, ◌||◌, Bool, true, false, Option, List, [], ◌∷◌, ◌++◌, map, Result, Ok, Err, inl}
+use Rattle.uart_run.proofs.Names.{inr, refl, sym, ap, subst, arith, if◌then◌else◌, common_steps, AllByRecursion, without, has_any}
+use Rattle.uart_run.proofs.Names.{divisor_of, Access, Read, Write, Config, ConfigRegisterDump, InitError, InvalidBaudRate, DeviceNotPresent}
+use Rattle.uart_run.proofs.Names.{FifoTriggerLevel, Setup, Language, Settings, Only, Then, Fields, Saving, with_config, with_fifo}
+use Rattle.uart_run.proofs.Names.{with_interrupts, WaitsFor, ChecksPresence, frame_bits, line_writes, SetsFifo, raised_outputs, Begins}
+use Rattle.uart_run.proofs.Names.{Ends, Inits, unlooped, WaitsIf, is_last, Looks, SetsUp, InitsWith, dumped_level, last_writes, Restores}
+use Rattle.uart_run.proofs.Names.{Call, meaning, outcome_of, doing_of, lcr_after, NeverSwitches, has_not, is_quiet, AllQuiet, Block, Look}
+use Rattle.uart_run.proofs.Names.{Hit, Other, Divisor, accesses_of, IsFit, AllFit, flat, not-true, Doing}
+use Rattle.uart_spec.specs.declared.errors.InitError.TheVariants.{Stalled}
 use Rattle.uart_spec.specs.declared.registers.line_control.TheConstants.LCR
 use Rattle.uart_spec.specs.declared.registers.line_status.TheConstants.LSR
 use Rattle.uart_spec.specs.declared.registers.offsets.TheConstants as offsets
-use Rattle.uart_spec.specs.declared.setup.Setup.{Setup}
-use Rattle.uart_16550.specs.Grammar.{Language, Settings, Only, Then}
-use Rattle.uart_16550.specs.Driver.{Fields, Saving, with_config, with_fifo, with_interrupts}
-use Rattle.uart_16550.specs.Transmit.{WaitsFor}
-use Rattle.uart_16550.specs.Init.{ChecksPresence, frame_bits, line_writes, SetsFifo}
-use Rattle.uart_16550.specs.Init.{raised_outputs, Begins, Ends, Inits}
-use Rattle.uart_16550.specs.Frame.{unlooped}
-use Rattle.uart_16550.specs.Setup.{WaitsIf, is_last, Looks}
-use Rattle.uart_16550.specs.Setup.{SetsUp, InitsWith, dumped_level, last_writes, Restores}
-use Rattle.uart_events.specs.declared.call.Call.{Call}
 use Rattle.uart_events.specs.declared.call.Call.TheVariants as call
-use Rattle.uart_calls.specs.Meaning.{meaning, outcome_of, doing_of}
-use Rattle.uart_chip.specs.Switching.{lcr_after, NeverSwitches}
-use Rattle.uart_chip.proofs.Bits.{has_not}
-use Rattle.uart_chip.proofs.conservation.Blocks.{is_quiet, AllQuiet, Block, Look, Hit, Burst, Other, Divisor, accesses_of, IsFit}
-use Rattle.uart_chip.proofs.conservation.Blocks.{AllFit, flat}
+use Rattle.uart_chip.proofs.conservation.Blocks.{Burst}
 use Rattle.uart_run.proofs.ListsInTurn.{HoldsInTurn, HoldsOfAll, all_then, HoldsOfDoing, does_next, does_sets}
-use Rattle.uart_run.proofs.ListsInTurn.{does_saving}
-use Rattle.uart_run.proofs.initialising.Inits.{frame-dlab}
-use Rattle.uart_run.proofs.CallBlocks.{InBlocks}
+use Rattle.uart_run.proofs.{ListsInTurn.does_saving, initialising.Inits.frame-dlab, CallBlocks.InBlocks, built.Receive.waits_for}
+use Rattle.uart_run.proofs.{built.Loopback.tests_loopback, built.Calls.call_does}
 use Rattle.uart_run.proofs.built.Words.{Kinds, Built, Does, all_pass, saves, looks, each_such, does_such}
-use Rattle.uart_run.proofs.built.Receive.{waits_for}
 use Rattle.uart_run.proofs.built.Init.{checks_presence, checks_if, waits_if, looks_first, sets_fifo, drains_receiver}
-use Rattle.uart_run.proofs.built.Loopback.{tests_loopback}
 use Rattle.uart_run.proofs.built.SettingUp.{writes_mcr, ends, sets_trigger, quiesces, registers_after}
-use Rattle.uart_run.proofs.built.Calls.{call_does}
-use Rattle.std.proofs.lemmas.Bool.{not-true}
-use Rattle.uart_16550.specs.Driver.{Doing}
 
 -- ---- lists that never write a register
 

@@ -1,26 +1,12 @@
 -- What the calls that write MCR alone leave: the outputs are as they were asked for.
-use Rattle.std.proofs.Common.{◌≡◌, ℕ, ◌-◌, Bool, true, false, List, [], ◌∷◌, refl, sym, ◌∙◌, ap, bit_and, bit_or}
-use Rattle.std.proofs.lemmas.Nat.{and_assoc}
-use Rattle.bitflags.specs.Sets.{without}
-use Rattle.uart_spec.specs.Access.{Path}
-use Rattle.uart_spec.specs.Bits.{has, IsWithin}
-use Rattle.uart_spec.specs.declared.access.Access.{Access}
-use Rattle.uart_spec.specs.declared.access.Access.TheVariants.{Read, Write}
+use Rattle.uart_run.proofs.Names.{◌≡◌, ℕ, ◌-◌, Bool, true, false, List, [], ◌∷◌, refl, sym, ◌∙◌, ap, bit_and, bit_or, and_assoc, without}
+use Rattle.uart_run.proofs.Names.{Path, has, IsWithin, Access, Read, Write, switched, unlooped, SetsControl, SetsOutput, ChangesOutput}
+use Rattle.uart_run.proofs.Names.{Settings, MachineStep, mcr_bits, mcr_bits_of, kept_mcr, IsSound, and_or, kept_same, latches_of}
+use Rattle.uart_run.proofs.Names.{ChangesOutputs, SetsOutputs, Switches, State, machine_of, path_as}
 use Rattle.uart_spec.specs.declared.registers.modem_control.TheConstants.MCR
 use Rattle.uart_spec.specs.declared.registers.offsets.TheConstants as offsets
-use Rattle.uart_16550.specs.Frame.{switched, unlooped, SetsControl, SetsOutput, ChangesOutput}
-use Rattle.uart_16550.specs.Grammar.{Settings}
 use Rattle.uart_16550.proofs.Switching.{changes_rts, changes_dtr}
-use Rattle.uart_chip.specs.Machine.{MachineStep}
-use Rattle.uart_chip.specs.Masks.{mcr_bits, mcr_bits_of, kept_mcr}
-use Rattle.uart_chip.specs.Sound.{IsSound}
-use Rattle.uart_chip.proofs.Bits.{and_or}
-use Rattle.uart_chip.proofs.McrBits.{kept_same}
-use Rattle.uart_run.specs.Ready.{latches_of, ChangesOutputs, SetsOutputs, Switches}
-use Rattle.uart_run.specs.Run.{State, machine_of}
-use Rattle.uart_run.proofs.FrameLaws.{mcr_read}
-use Rattle.uart_run.proofs.Latches.{Kept, kept_in, kept_list}
-use Rattle.uart_chip.proofs.conservation.BlockLaws.{path_as}
+use Rattle.uart_run.proofs.{FrameLaws.mcr_read, Latches.Kept, Latches.kept_in, Latches.kept_list}
 
 -- ---- MCR keeps all of what is written
 

@@ -1,35 +1,19 @@
 -- Where a character was lost that the overrun flag tells of, with the FIFO on.
-use Rattle.std.proofs.Common.{◌≡◌, ◌≢◌, ℕ, suc, ◌-◌, ◌≤◌, ◌<◌, Bool, true, false, inl, inr, nat_lt, List, [], ◌∷◌, ◌++◌, length, drop}
-use Rattle.std.proofs.Common.{length-append, append_assoc, refl, sym, ◌∙◌, ap, subst, arith, slice_set, get_or-set_same, get_or-set_other}
-use Rattle.std.specs.List.{AllByRecursion}
-use Rattle.std.proofs.lemmas.Grind.{common_steps}
-use Rattle.std.proofs.lemmas.List.{take_all, drop_all, take-append-le, drop-append-le}
+use Rattle.uart_run.proofs.Names.{◌≡◌, ◌≢◌, ℕ, suc, ◌-◌, ◌≤◌, ◌<◌, Bool, true, false, inl, inr, nat_lt, List, [], ◌∷◌, ◌++◌, length, drop}
+use Rattle.uart_run.proofs.Names.{length-append, append_assoc, refl, sym, ◌∙◌, ap, subst, arith, slice_set, get_or-set_same}
+use Rattle.uart_run.proofs.Names.{get_or-set_other, AllByRecursion, common_steps, take_all, drop_all, take-append-le, drop-append-le}
+use Rattle.uart_run.proofs.Names.{has_any, Access, Read, Write, Received, characters, FifoSize, Character, Arrived, ChipState, is_dlab_set}
+use Rattle.uart_run.proofs.Names.{after_read, after_write, MachineState, MachineStep, at_access, ReceiverState, mark_at, set_mark}
+use Rattle.uart_run.proofs.Names.{take_front, IsInQueue, AllInQueue, IsMarked, at_least_16, ReadMove, takes, looks, read_move, WriteMove}
+use Rattle.uart_run.proofs.Names.{switches, resizes, clears, triggers, write_move, each-append, each-weaker, status_overrun, Modes}
+use Rattle.uart_run.proofs.Names.{loopback-in, passed-access, IsOpen, Stands, IsOlder, IsYounger, IsLostBehind, IsLost, FlagTells}
+use Rattle.uart_run.proofs.Names.{LeavesReceiver, OverrunsTell}
 use Rattle.uart_events.specs.declared.event.ArrivalMark.{ArrivalMark}
 use Rattle.uart_events.specs.declared.event.ArrivalMark.TheVariants.{Pending, Waiting, Read as ReadMark, Dropped}
-use Rattle.uart_spec.specs.Bits.{has_any}
-use Rattle.uart_spec.specs.declared.access.Access.{Access}
-use Rattle.uart_spec.specs.declared.access.Access.TheVariants.{Read, Write}
-use Rattle.uart_spec.specs.declared.received.Received.{Received}
 use Rattle.uart_spec.specs.declared.registers.line_status.TheConstants.LSR
 use Rattle.uart_spec.specs.declared.registers.offsets.TheConstants as offsets
-use Rattle.uart_spec.specs.FifoSize.{characters}
-use Rattle.uart_spec.specs.declared.setup.FifoSize.{FifoSize}
-use Rattle.uart_chip.specs.declared.receiver.Character.{Character}
 use Rattle.uart_chip.specs.declared.receiver.Origin.{Origin}
-use Rattle.uart_chip.specs.declared.receiver.Origin.TheVariants.{Arrived}
-use Rattle.uart_chip.specs.Chip.{ChipState, is_dlab_set, after_read, after_write}
-use Rattle.uart_chip.specs.Machine.{MachineState, MachineStep, at_access}
 use Rattle.uart_chip.specs.Receiver as receiver
-use Rattle.uart_chip.specs.Receiver.{ReceiverState, mark_at, set_mark, take_front}
-use Rattle.uart_chip.specs.Sound.{IsInQueue, AllInQueue, IsMarked}
-use Rattle.uart_chip.proofs.Sizes.{at_least_16}
-use Rattle.uart_chip.proofs.AccessMoves.{ReadMove, takes, looks, read_move, WriteMove, switches, resizes, clears, triggers, write_move}
-use Rattle.uart_chip.proofs.Lists.{each-append, each-weaker}
-use Rattle.uart_chip.proofs.statuses.Status.{status_overrun}
-use Rattle.uart_chip.proofs.conservation.Went.{Modes, loopback-in}
-use Rattle.uart_chip.proofs.conservation.Passed.{passed-access}
-use Rattle.uart_chip.proofs.conservation.BlockLaws.{IsOpen, Stands}
-use Rattle.uart_run.specs.Overruns.{IsOlder, IsYounger, IsLostBehind, IsLost, FlagTells, LeavesReceiver, OverrunsTell}
 use Rattle.uart_run.proofs.Between.{access_lasts}
 
 -- ---- a lost arrival stays lost, behind as many

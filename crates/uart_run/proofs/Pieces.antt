@@ -1,11 +1,6 @@
 -- Pieces of a path: where a list, or what a call does, has two parts, its path leads through a machine between them.
-use Rattle.std.proofs.Common.{◌≡◌, List, ◌++◌}
-use Rattle.uart_spec.specs.Access.{Path}
-use Rattle.uart_spec.specs.declared.access.Access.{Access}
-use Rattle.uart_16550.specs.Grammar.{Language, Settings, Then}
-use Rattle.uart_16550.specs.Driver.{Fields, Doing, Next}
-use Rattle.uart_chip.specs.Machine.{MachineState, MachineStep}
-use Rattle.uart_chip.proofs.conservation.BlockLaws.{path_as, path_split}
+use Rattle.uart_run.proofs.Names.{◌≡◌, List, ◌++◌, Path, Access, Language, Settings, Then, Fields, Doing, Next, MachineState, MachineStep}
+use Rattle.uart_run.proofs.Names.{path_as, path_split}
 
 -- a list of the first kind from m to the machine between, and one of the second kind from there to n
 pub record Parts (P Q : List Access → Type 0) (m n : MachineState) : Type 0 where

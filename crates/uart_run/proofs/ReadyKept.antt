@@ -1,20 +1,11 @@
 -- Whatever a call answers, it leaves a ready state ready.
-use Rattle.std.proofs.Common.{[], ◌∷◌, inr, refl}
-use Rattle.uart_events.specs.declared.call.Call.{Call}
+use Rattle.uart_run.proofs.Names.{[], ◌∷◌, inr, refl, Call, Answer, State, machine_of, Link, CallStep, Ready, IsSound, IsWithinSession}
 use Rattle.uart_events.specs.declared.call.Call.TheVariants as call
-use Rattle.uart_events.specs.declared.call.Answer.{Answer}
-use Rattle.uart_run.specs.Run.{State, machine_of, Link, CallStep}
-use Rattle.uart_run.specs.Ready.{Ready}
-use Rattle.uart_chip.specs.Sound.{IsSound}
-use Rattle.uart_run.specs.Session.{IsWithinSession}
-use Rattle.uart_run.proofs.SizeKept.{fits_kept}
-use Rattle.uart_run.proofs.Sessions.{session_conserves}
+use Rattle.uart_run.proofs.{SizeKept.fits_kept, Sessions.session_conserves, SetupLaws.frame_when_idle_ready, SetupLaws.quiesce_ready}
+use Rattle.uart_run.proofs.{SetupLaws.restores, initialising.Initialised.init_ready, initialising.SetUp.init_with_ready}
+use Rattle.uart_run.proofs.{loopback.TestedReady.tested_ready}
 use Rattle.uart_run.proofs.FrameLaws.{set_frame_ready, attach_ready, set_break_ready, set_control_ready, set_output_ready}
 use Rattle.uart_spec.specs.declared.registers.modem_control.TheConstants.MCR
-use Rattle.uart_run.proofs.SetupLaws.{frame_when_idle_ready, quiesce_ready, restores}
-use Rattle.uart_run.proofs.initialising.Initialised.{init_ready}
-use Rattle.uart_run.proofs.initialising.SetUp.{init_with_ready}
-use Rattle.uart_run.proofs.loopback.TestedReady.{tested_ready}
 
 -- a call within a session is a session of its own
 alone : (s t : State) (call : Call) (a : Answer) → IsWithinSession s call → IsSound (machine_of s) → CallStep s call a t → Ready s → Ready t

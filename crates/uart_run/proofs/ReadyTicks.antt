@@ -1,13 +1,6 @@
 -- Ticks outside of the schedule leave a ready state ready.
-use Rattle.std.proofs.Common.{◌≡◌, ℕ, zero, suc, refl, sym, ◌∙◌, ap}
-use Rattle.uart_spec.specs.declared.setup.FifoSize.{FifoSize}
-use Rattle.uart_16550.specs.Driver.{Fields}
-use Rattle.uart_chip.specs.Chip.{ChipState, is_dlab_set, is_loopback, ticks}
-use Rattle.uart_chip.specs.Machine.{MachineState}
-use Rattle.uart_run.specs.Run.{machine_of}
-use Rattle.uart_run.specs.Ready.{KeepsReady}
-use Rattle.uart_chip.proofs.soundness.Sounds.{latches-ticks}
-use Rattle.uart_chip.proofs.lasting.FifoSizes.{same_size-ticks}
+use Rattle.uart_run.proofs.Names.{◌≡◌, ℕ, zero, suc, refl, sym, ◌∙◌, ap, FifoSize, Fields, ChipState, is_dlab_set, is_loopback, ticks}
+use Rattle.uart_run.proofs.Names.{MachineState, machine_of, KeepsReady, latches-ticks, same_size-ticks}
 use Rattle.uart_run.proofs.SizeKept.{fits_by}
 
 fifo-ticks : (n : ℕ) (c : ChipState) → (ticks n c).fifo ≡ c.fifo

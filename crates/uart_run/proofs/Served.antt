@@ -1,59 +1,27 @@
 -- What a call of a session does at least.
-use Rattle.std.proofs.Common.{◌≡◌, ℕ, zero, suc, ◌<◌, ◌≤◌, min, Bool, true, false, inl, inr, nat_lt, List, [], ◌∷◌, ◌++◌, map, length}
-use Rattle.std.proofs.Common.{append_assoc, append-nil, Result, Ok, Err, Option, Some, None, refl, arith, sym, ◌∙◌, ap, subst}
-use Rattle.std.proofs.lemmas.Grind.{common_steps}
-use Rattle.std.proofs.lemmas.List.{length-map}
-use Rattle.uart_spec.specs.declared.errors.ByteReceiveError.{ByteReceiveError}
-use Rattle.uart_spec.specs.declared.config.Config.{Config}
-use Rattle.uart_spec.specs.declared.errors.FrameError.{FrameError}
-use Rattle.uart_spec.specs.declared.errors.StalledError.{StalledError}
+use Rattle.uart_run.proofs.Names.{◌≡◌, ℕ, zero, suc, ◌<◌, ◌≤◌, min, Bool, true, false, inl, inr, nat_lt, List, [], ◌∷◌, ◌++◌, map, length}
+use Rattle.uart_run.proofs.Names.{append_assoc, append-nil, Result, Ok, Err, Option, Some, None, refl, arith, sym, ◌∙◌, ap, subst}
+use Rattle.uart_run.proofs.Names.{common_steps, length-map, ByteReceiveError, Config, FrameError, StalledError, Path, Access, Read}
+use Rattle.uart_run.proofs.Names.{Language, Settings, Times, Only, fields, settings_of, Saving, Sets, Next, Miss, TryReceive, Receives}
+use Rattle.uart_run.proofs.Names.{ReceivesExact, ReceivesWithErrors, Received, Reads, Flushes, ShowsIdle, frame_writes, with_frame}
+use Rattle.uart_run.proofs.Names.{frame_bits, SetsFrameWhenIdle, WaitsFor, inner_of, Call, Answer, Register, Done, Flag, Character}
+use Rattle.uart_run.proofs.Names.{Shifting, shift_bytes, is_transmitter_empty, MachineState, MachineStep, at_access, sound_access, IsWithin}
+use Rattle.uart_run.proofs.Names.{max, bit_and, bit_or, same_from_bits, bit_at_or, bit_at_and, bit_at-zero, received_answer, read_answer}
+use Rattle.uart_run.proofs.Names.{with_errors_answer, receive_exact_answer, exact_answer, frame_when_idle_answer, State, machine_of}
+use Rattle.uart_run.proofs.Names.{CallStep, Link, Chain, only_bytes, HoldsAtLeast, waiting_len, ServesWithErrors, transmitter_of, IsFlushed}
+use Rattle.uart_run.proofs.Names.{Serves, AllServe, has_one, Modes, PassedBlocks, path_as, path_split, look_data}
 use Rattle.uart_spec.specs.declared.registers.offsets.TheConstants as offsets
 use Rattle.uart_spec.specs.declared.registers.line_status.TheConstants.LSR
-use Rattle.uart_spec.specs.Access.{Path}
-use Rattle.uart_spec.specs.declared.access.Access.{Access}
-use Rattle.uart_spec.specs.declared.access.Access.TheVariants.{Read}
-use Rattle.uart_16550.specs.Grammar.{Language, Settings, Times, Only}
-use Rattle.uart_16550.specs.Driver.{fields, settings_of, Saving, Sets, Next}
-use Rattle.uart_16550.specs.Receive.{Miss, TryReceive, Receives, ReceivesExact, ReceivesWithErrors}
-use Rattle.uart_spec.specs.declared.received.Received.{Received}
-use Rattle.uart_16550.specs.Io.{Reads, Flushes}
-use Rattle.uart_16550.specs.Frame.{ShowsIdle, frame_writes, with_frame}
-use Rattle.uart_16550.specs.Init.{frame_bits}
-use Rattle.uart_16550.specs.Setup.{SetsFrameWhenIdle}
-use Rattle.uart_16550.specs.Transmit.{WaitsFor}
-use Rattle.uart_16550.specs.Tty.{inner_of}
-use Rattle.uart_events.specs.declared.call.Call.{Call}
 use Rattle.uart_events.specs.declared.call.Call.TheVariants as call
-use Rattle.uart_events.specs.declared.call.Answer.{Answer}
-use Rattle.uart_events.specs.declared.call.Answer.TheVariants.{Register, Done, Flag}
-use Rattle.uart_chip.specs.declared.receiver.Character.{Character}
-use Rattle.uart_chip.specs.declared.transmitter.Shifting.{Shifting}
-use Rattle.uart_chip.specs.Transmitter.{shift_bytes}
-use Rattle.uart_chip.specs.Chip.{is_transmitter_empty}
-use Rattle.uart_chip.specs.Machine.{MachineState, MachineStep, at_access}
-use Rattle.uart_chip.proofs.soundness.Sounds.{sound_access}
-use Rattle.uart_spec.specs.Bits.{IsWithin}
 use Rattle.uart_spec.specs.declared.registers.modem_status.TheConstants.MSR
-use Rattle.std.proofs.Common.{max, bit_and, bit_or}
-use Rattle.std.proofs.lemmas.Nat.Bits.{same_from_bits, bit_at_or, bit_at_and, bit_at-zero}
 use Rattle.std.specs.Int.{bit_at}
 use Rattle.uart_chip.specs.Conserved.{out}
-use Rattle.uart_calls.specs.Meaning.{received_answer, read_answer, with_errors_answer, receive_exact_answer, exact_answer}
-use Rattle.uart_calls.specs.Meaning.{frame_when_idle_answer}
-use Rattle.uart_run.specs.Run.{State, machine_of, CallStep, Link, Chain}
-use Rattle.uart_run.specs.Session.{only_bytes}
-use Rattle.uart_run.specs.Served.{HoldsAtLeast, waiting_len, ServesWithErrors, transmitter_of, IsFlushed, Serves, AllServe}
-use Rattle.uart_chip.proofs.Bits.{has_one}
-use Rattle.uart_chip.proofs.conservation.Went.{Modes}
 use Rattle.uart_run.proofs.EmptyTransmitter.{wait_empties, empty_shown, sent_shown, shown_sent, sent_framed}
-use Rattle.uart_run.proofs.Pieces.{next_stages}
-use Rattle.uart_chip.proofs.conservation.BlockLaws.{PassedBlocks, path_as, path_split, look_data}
-use Rattle.uart_run.proofs.CallBlocks.{Makes, most_in, makes_look, passed_in_blocks}
+use Rattle.uart_run.proofs.{Pieces.next_stages, CallBlocks.Makes, CallBlocks.most_in, CallBlocks.makes_look, CallBlocks.passed_in_blocks}
+use Rattle.uart_run.proofs.{CallKeeps.reads_blocks, CallKeeps.flushes_blocks, CallLaws.InSession, CallLaws.session_room}
+use Rattle.uart_run.proofs.{ExactErrors.exactly_received}
 use Rattle.uart_run.proofs.CallBlocks.{try_receive_blocks, receives_blocks, receives_exact_blocks, receives_with_blocks}
-use Rattle.uart_run.proofs.CallKeeps.{reads_blocks, flushes_blocks}
-use Rattle.uart_run.proofs.CallLaws.{InSession, session_room}
 use Rattle.uart_run.proofs.FrameLaws.{GoOn, AllAt, session_fits, in_session-gone, same_cut, waited, framed_by}
-use Rattle.uart_run.proofs.ExactErrors.{exactly_received}
 
 -- ---- lists that end with a miss
 

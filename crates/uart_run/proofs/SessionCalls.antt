@@ -1,19 +1,10 @@
 -- The calls of a session in turn.
-use Rattle.std.proofs.Common.{◌≡◌, ℕ, List, [], ◌∷◌, ◌++◌, refl, sym, ◌∙◌, ap, subst, bit_or}
+use Rattle.uart_run.proofs.Names.{◌≡◌, ℕ, List, [], ◌∷◌, ◌++◌, refl, sym, ◌∙◌, ap, subst, bit_or, saved_lsr, saved_msr, fields, inner_of}
+use Rattle.uart_run.proofs.Names.{cut_of, IsSound, State, machine_of, Link, Chain, Ready, Call, reported, received, reported_by}
+use Rattle.uart_run.proofs.Names.{received_by, AllNoLsr, AllNoMsr, Modes, fixed}
 use Rattle.uart_spec.specs.declared.registers.offsets.TheConstants as offsets
 use Rattle.uart_spec.specs.declared.registers.line_status.TheConstants.LSR
 use Rattle.uart_spec.specs.declared.registers.modem_status.TheConstants.MSR
-use Rattle.uart_spec.specs.Access.{saved_lsr, saved_msr}
-use Rattle.uart_16550.specs.Driver.{fields}
-use Rattle.uart_16550.specs.Tty.{inner_of}
-use Rattle.uart_chip.specs.Chip.{cut_of}
-use Rattle.uart_chip.specs.Sound.{IsSound}
-use Rattle.uart_run.specs.Run.{State, machine_of, Link, Chain}
-use Rattle.uart_run.specs.Ready.{Ready}
-use Rattle.uart_events.specs.declared.call.Call.{Call}
-use Rattle.uart_run.specs.Session.{reported, received, reported_by, received_by}
-use Rattle.uart_run.specs.Statuses.{AllNoLsr, AllNoMsr}
-use Rattle.uart_chip.proofs.conservation.Went.{Modes, fixed}
 use Rattle.uart_run.proofs.CallLaws.{Passes, InSession, passes_none, saved_both}
 use Rattle.uart_run.proofs.FrameLaws.{Goes, GoOn, AllAt, goes_still, session_fits, in_session-gone, passed_onwards, same_cut}
 

@@ -1,33 +1,15 @@
 -- What a session conserves, carried over its calls.
-use Rattle.std.proofs.Common.{◌≡◌, ℕ, List, [], ◌∷◌, ◌++◌, map, ap, sym, ◌∙◌, refl, subst}
-use Rattle.uart_chip.specs.Chip.{cut_of}
-use Rattle.uart_spec.specs.Access.{Path}
-use Rattle.uart_spec.specs.Bits.{has_any}
+use Rattle.uart_run.proofs.Names.{◌≡◌, ℕ, List, [], ◌∷◌, ◌++◌, map, ap, sym, ◌∙◌, refl, subst, cut_of, Path, has_any, Access, Call, Answer}
+use Rattle.uart_run.proofs.Names.{fields, inner_of, MachineState, MachineStep, at_mark, IsSound, State, machine_of, Link, Chain, CallStep}
+use Rattle.uart_run.proofs.Names.{GoesOn, IsWithinSession, AllCalls, IsSession, reported, received, Conserves, GoesOnUncut, IsWithinUncut}
+use Rattle.uart_run.proofs.Names.{IsUncutSession, IsWiredChip, IsWired, sound_path, sound_mark, Modes, dlab-in, loopback-in, received_kept}
 use Rattle.uart_spec.specs.declared.registers.line_control.TheConstants.LCR
-use Rattle.uart_spec.specs.declared.access.Access.{Access}
-use Rattle.uart_events.specs.declared.call.Call.{Call}
 use Rattle.uart_events.specs.declared.call.Call.TheVariants as call
-use Rattle.uart_events.specs.declared.call.Answer.{Answer}
-use Rattle.uart_16550.specs.Driver.{fields}
-use Rattle.uart_16550.specs.Tty.{inner_of}
-use Rattle.uart_chip.specs.Machine.{MachineState, MachineStep, at_mark}
-use Rattle.uart_chip.specs.Sound.{IsSound}
 use Rattle.uart_chip.specs.Conserved.{out}
-use Rattle.uart_run.specs.Run.{State, machine_of, Link, Chain, CallStep}
-use Rattle.uart_run.specs.Session.{GoesOn, IsWithinSession, AllCalls, IsSession, reported, received, Conserves}
-use Rattle.uart_run.specs.Uncut.{GoesOnUncut, IsWithinUncut, IsUncutSession}
-use Rattle.uart_run.specs.Wired.{IsWiredChip, IsWired}
-use Rattle.uart_chip.proofs.soundness.Sounds.{sound_path, sound_mark}
-use Rattle.uart_chip.proofs.conservation.Went.{Modes, dlab-in, loopback-in}
-use Rattle.uart_chip.proofs.conservation.SessionLaws.{received_kept}
-use Rattle.uart_run.proofs.Chains.{chain_keeps}
-use Rattle.uart_run.proofs.SizeKept.{size_kept, fits_by}
-use Rattle.uart_run.proofs.CallLaws.{InSession}
-use Rattle.uart_run.proofs.Wired.{wired_path, wired_mark}
+use Rattle.uart_run.proofs.{Chains.chain_keeps, SizeKept.size_kept, SizeKept.fits_by, CallLaws.InSession, Wired.wired_path}
+use Rattle.uart_run.proofs.{Wired.wired_mark, SessionCalls.modes_of, SessionCalls.modes_cut, SessionCalls.in_session}
+use Rattle.uart_run.proofs.{SessionCalls.goes_chain, StatusSessions.tells_in, Served.serves_chain}
 use Rattle.uart_run.proofs.FrameLaws.{GoOn, AllAt, go_within, go_within_uncut, same_cut, same_fifo}
-use Rattle.uart_run.proofs.SessionCalls.{modes_of, modes_cut, in_session, goes_chain}
-use Rattle.uart_run.proofs.StatusSessions.{tells_in}
-use Rattle.uart_run.proofs.Served.{serves_chain}
 
 -- ---- what every call keeps
 

@@ -1,58 +1,25 @@
 -- What a `set_frame_when_idle`, a `set_trigger_level`, a `quiesce` and a `restore` leave.
-use Rattle.std.proofs.Common.{◌≡◌, ℕ, Bool, true, false, ◌&&◌, List, [], ◌∷◌, ◌++◌, append-nil, Option, None, Result, Ok, Err}
-use Rattle.std.proofs.Common.{refl, sym, ◌∙◌, ap, subst, bit_and, ◌%◌, ◌/◌, if◌then◌else◌}
-use Rattle.std.proofs.Math.Nat.{div-add-mod}
-use Rattle.bitflags.specs.Sets.{without}
-use Rattle.uart_spec.specs.Access.{Path}
-use Rattle.uart_spec.specs.Bits.{has, has_any}
-use Rattle.uart_spec.specs.Dump.{divisor_of}
-use Rattle.uart_spec.specs.declared.access.Access.{Access}
-use Rattle.uart_spec.specs.declared.access.Access.TheVariants.{Write}
-use Rattle.uart_spec.specs.declared.config.Config.{Config}
-use Rattle.uart_spec.specs.declared.dump.ConfigRegisterDump.{ConfigRegisterDump}
-use Rattle.uart_spec.specs.declared.errors.FifosOffError.{FifosOffError}
-use Rattle.uart_spec.specs.declared.errors.FrameError.{FrameError}
+use Rattle.uart_run.proofs.Names.{◌≡◌, ℕ, Bool, true, false, ◌&&◌, List, [], ◌∷◌, ◌++◌, append-nil, Option, None, Result, Ok, Err, refl}
+use Rattle.uart_run.proofs.Names.{sym, ◌∙◌, ap, subst, bit_and, ◌%◌, ◌/◌, if◌then◌else◌, div-add-mod, without, Path, has, has_any}
+use Rattle.uart_run.proofs.Names.{divisor_of, Access, Write, Config, ConfigRegisterDump, FifosOffError, FrameError, FifoTriggerLevel, One}
+use Rattle.uart_run.proofs.Names.{FifoAction, Keep, Reset, Disable, Only, Then, Fields, fields, settings_of, Saving, Sets, Next, with_fifo}
+use Rattle.uart_run.proofs.Names.{with_interrupts, unlooped, frame_writes, with_frame, DivisorOf, frame_bits, line_writes, SetsFifo}
+use Rattle.uart_run.proofs.Names.{level_bits, level_of, fifo_writes, stays_on, dumped_level, last_writes, SetsTrigger, SetsFrameWhenIdle}
+use Rattle.uart_run.proofs.Names.{Quiesces, Restores, WaitsFor, inner_of, Answer, Chip, Uart16550A, frame_when_idle_answer, trigger_answer}
+use Rattle.uart_run.proofs.Names.{ier_bits, kept_mcr, ChipState, is_dlab_set, divisor, interrupt, control, trigger_level, MachineState}
+use Rattle.uart_run.proofs.Names.{MachineStep, at_access, IsSound, has_not, path_as, levelled, sound_path, sound_access, State, machine_of}
+use Rattle.uart_run.proofs.Names.{CallStep, Ready, BurstsFit, latches_of, has_fifo, is_level, FramesWhenIdle, Levels, IsQuiet, IsRestored}
 use Rattle.uart_spec.specs.declared.errors.FrameError.TheVariants.{InvalidBaudRate, Stalled}
-use Rattle.uart_spec.specs.declared.registers.fifo_trigger_level.FifoTriggerLevel.{FifoTriggerLevel}
-use Rattle.uart_spec.specs.declared.registers.fifo_trigger_level.FifoTriggerLevel.TheVariants.{One}
 use Rattle.uart_spec.specs.declared.registers.interrupt_status.TheConstants.ISR
 use Rattle.uart_spec.specs.declared.registers.line_control.TheConstants.LCR
 use Rattle.uart_spec.specs.declared.registers.line_status.TheConstants.LSR
 use Rattle.uart_spec.specs.declared.registers.offsets.TheConstants as offsets
-use Rattle.uart_spec.specs.declared.setup.FifoAction.{FifoAction}
-use Rattle.uart_spec.specs.declared.setup.FifoAction.TheVariants.{Keep, Reset, Disable}
-use Rattle.uart_16550.specs.Grammar.{Only, Then}
-use Rattle.uart_16550.specs.Driver.{Fields, fields, settings_of, Saving, Sets, Next, with_fifo, with_interrupts}
-use Rattle.uart_16550.specs.Frame.{unlooped, frame_writes, with_frame}
-use Rattle.uart_16550.specs.Init.{DivisorOf, frame_bits, line_writes, SetsFifo}
-use Rattle.uart_16550.specs.Setup.{level_bits, level_of, fifo_writes, stays_on, dumped_level, last_writes}
-use Rattle.uart_16550.specs.Setup.{SetsTrigger, SetsFrameWhenIdle, Quiesces, Restores}
-use Rattle.uart_16550.specs.Transmit.{WaitsFor}
-use Rattle.uart_16550.specs.Tty.{inner_of}
 use Rattle.uart_events.specs.declared.call.Call.TheVariants as call
-use Rattle.uart_events.specs.declared.call.Answer.{Answer}
-use Rattle.uart_events.specs.declared.event.Chip.{Chip}
-use Rattle.uart_events.specs.declared.event.Chip.TheVariants.{Uart16550A}
-use Rattle.uart_calls.specs.Meaning.{frame_when_idle_answer, trigger_answer}
-use Rattle.uart_chip.specs.Masks.{ier_bits, kept_mcr}
-use Rattle.uart_chip.specs.Chip.{ChipState, is_dlab_set, divisor, interrupt, control, trigger_level}
-use Rattle.uart_chip.specs.Machine.{MachineState, MachineStep, at_access}
-use Rattle.uart_chip.specs.Sound.{IsSound}
-use Rattle.uart_chip.proofs.Bits.{has_not}
-use Rattle.uart_chip.proofs.conservation.BlockLaws.{path_as}
-use Rattle.uart_chip.proofs.conservation.Effects.{levelled}
-use Rattle.uart_chip.proofs.soundness.Sounds.{sound_path, sound_access}
-use Rattle.uart_run.specs.Run.{State, machine_of, CallStep}
-use Rattle.uart_run.specs.Ready.{Ready, BurstsFit, latches_of, has_fifo, is_level, FramesWhenIdle, Levels, IsQuiet, IsRestored}
 use Rattle.uart_run.proofs.Latches.{Kept, kept_in, keep, kept_after, kept_list, kept_path, kept_access}
-use Rattle.uart_run.proofs.Pieces.{then_parts, next_stages}
-use Rattle.uart_run.proofs.SizeKept.{fits_kept}
-use Rattle.uart_run.proofs.CallLaws.{level_bits_keep}
-use Rattle.uart_run.proofs.FrameLaws.{framed_by, framed_kept, unlooped_off}
-use Rattle.uart_run.proofs.initialising.FifoSteps.{sets_fifo, controlled}
-use Rattle.uart_run.proofs.initialising.Initialised.{ready_by}
-use Rattle.uart_run.proofs.initialising.Inits.{frame-dlab}
-use Rattle.uart_run.proofs.initialising.SetUp.{reads_waits}
+use Rattle.uart_run.proofs.{Pieces.then_parts, Pieces.next_stages, SizeKept.fits_kept, CallLaws.level_bits_keep, FrameLaws.framed_by}
+use Rattle.uart_run.proofs.{FrameLaws.framed_kept, FrameLaws.unlooped_off, initialising.FifoSteps.sets_fifo}
+use Rattle.uart_run.proofs.{initialising.FifoSteps.controlled, initialising.Initialised.ready_by, initialising.Inits.frame-dlab}
+use Rattle.uart_run.proofs.{initialising.SetUp.reads_waits}
 
 -- ---- `set_frame_when_idle`
 

@@ -1,12 +1,8 @@
 -- Lists of accesses that send nothing: of languages, and of what a call does.
-use Rattle.std.proofs.Common.{◌≡◌, ℕ, ◌==◌, Bool, true, not}
-use Rattle.std.proofs.lemmas.Bool.{not-true}
+use Rattle.uart_run.proofs.Names.{◌≡◌, ℕ, ◌==◌, Bool, true, not, not-true, Language, Settings, Doing, SendsNothing, AllSendNothing}
 use Rattle.uart_spec.specs.declared.registers.offsets.TheConstants as offsets
-use Rattle.uart_16550.specs.Grammar.{Language, Settings}
-use Rattle.uart_16550.specs.Driver.{Doing}
 use Rattle.uart_run.proofs.ListsInTurn.{HoldsOfAll, HoldsOfDoing}
 use Rattle.uart_run.proofs.built.Words.{Kinds, Built, Does, all_pass, each_such, does_such}
-use Rattle.uart_chip.proofs.lasting.Lasting.{SendsNothing, AllSendNothing}
 
 abbrev pub is_no_data : ℕ → Bool
 is_no_data register = not (register == offsets.DATA)

@@ -1,29 +1,14 @@
 -- No call changes for which size the driver takes the FIFOs, or its spin limit, and but for an `init` none changes whether it checks CTS.
 -- Nor does it change the size that they have: that switches only on a chip that has the switch of a 16750, and only if FCR is written while
 -- DLAB is set.
-use Rattle.std.proofs.Common.{◌≡◌, ◌⊎◌, ℕ, true, false, List, inl, inr, refl, ◌∙◌, ap}
-use Rattle.uart_spec.specs.declared.access.Access.{Access}
-use Rattle.uart_spec.specs.declared.setup.FifoSize.{FifoSize}
+use Rattle.uart_run.proofs.Names.{◌≡◌, ◌⊎◌, ℕ, true, false, List, inl, inr, refl, ◌∙◌, ap, Access, FifoSize, Path, Language, Settings}
+use Rattle.uart_run.proofs.Names.{Doing, Fields, fields, inner_of, Call, Answer, meaning, outcome_of, doing_of, MachineState, MachineStep}
+use Rattle.uart_run.proofs.Names.{is_dlab_set, NeverSwitches, SameSizes, same_size, same_size-lacking, same_size-mark, State, machine_of}
+use Rattle.uart_run.proofs.Names.{CallStep, transmitter_of, BurstsFit, IsSizeFixed, KeepsSize, IsUnchecked, KeepsChecks}
 use Rattle.uart_spec.specs.declared.registers.offsets.TheConstants as offsets
-use Rattle.uart_spec.specs.Access.{Path}
-use Rattle.uart_16550.specs.Grammar.{Language, Settings}
-use Rattle.uart_16550.specs.Driver.{Doing, Fields, fields}
-use Rattle.uart_16550.specs.Tty.{inner_of}
-use Rattle.uart_events.specs.declared.call.Call.{Call}
 use Rattle.uart_events.specs.declared.call.Call.TheVariants as call
-use Rattle.uart_events.specs.declared.call.Answer.{Answer}
-use Rattle.uart_calls.specs.Meaning.{meaning, outcome_of, doing_of}
-use Rattle.uart_chip.specs.Machine.{MachineState, MachineStep}
-use Rattle.uart_chip.specs.Chip.{is_dlab_set}
-use Rattle.uart_chip.specs.Switching.{NeverSwitches, SameSizes}
-use Rattle.uart_chip.proofs.lasting.FifoSizes.{same_size, same_size-lacking, same_size-mark}
-use Rattle.uart_run.specs.Run.{State, machine_of, CallStep}
-use Rattle.uart_run.specs.Served.{transmitter_of}
-use Rattle.uart_run.specs.Ready.{BurstsFit, IsSizeFixed, KeepsSize}
-use Rattle.uart_run.specs.Progress.{IsUnchecked, KeepsChecks}
-use Rattle.uart_run.proofs.built.Calls.{kinds_of, call_does}
+use Rattle.uart_run.proofs.{built.Calls.kinds_of, built.Calls.call_does, CallBlocks.InBlocks}
 use Rattle.uart_run.proofs.built.Words.{Kinds, Built, Does, but_checks, allows, all_pass, told_of, allowed, leaves}
-use Rattle.uart_run.proofs.CallBlocks.{InBlocks}
 use Rattle.uart_run.proofs.NeverSwitched.{NeverWrites, is_not, never, blocks_never, NeverEver, unwritten, unlatched, Stays, call_stays}
 
 -- ---- what the driver takes the size to be, its spin limit, and whether it checks CTS

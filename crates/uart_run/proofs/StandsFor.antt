@@ -1,33 +1,13 @@
 -- Calls of the driver that are no calls of a run make the lists of those for which they stand.
-use Rattle.std.proofs.Common.{◌≡◌, ◌<◌, ◌≤◌, ◌⊎◌, ℕ, Bool, true, false, List, [], ◌∷◌, length, take, min, Result, Ok, Err}
-use Rattle.std.proofs.Common.{inl, inr, refl, sym, ◌∙◌, ap, arith}
-use Rattle.std.proofs.lemmas.List.{append-nil, length-take, take-take}
-use Rattle.uart_spec.specs.Config.{IsComputable}
-use Rattle.uart_spec.specs.FifoSize.{characters}
-use Rattle.uart_spec.specs.declared.access.Access.{Access}
-use Rattle.uart_spec.specs.declared.config.Config.{Config}
-use Rattle.uart_spec.specs.declared.errors.ByteReceiveError.{ByteReceiveError}
-use Rattle.uart_spec.specs.declared.errors.InvalidDivisorError.{InvalidDivisorError}
-use Rattle.uart_spec.specs.declared.received.Received.{Received}
-use Rattle.uart_spec.specs.declared.setup.FifoSize.{FifoSize}
-use Rattle.uart_16550.specs.Bursts.{SendsBurst}
-use Rattle.uart_16550.specs.Checked.{IfComputable, IsRefusalOf}
-use Rattle.uart_16550.specs.Driver.{Did, Doing, Made, Saving, fields, settings_of}
-use Rattle.uart_16550.specs.Frame.{SetsFrame}
-use Rattle.uart_16550.specs.Init.{Inits}
-use Rattle.uart_16550.specs.Setup.{InitsWith, SetsFrameWhenIdle}
-use Rattle.uart_16550.specs.Grammar.{Settings, Language}
-use Rattle.uart_16550.specs.Receive.{TryReceiveWithErrors, ReceivesWithErrors}
-use Rattle.uart_16550.specs.Transmit.{Sends, burst_size}
-use Rattle.uart_16550.proofs.Doings.{did_among, did_made}
-use Rattle.uart_events.specs.declared.call.Call.{Call}
+use Rattle.uart_run.proofs.Names.{◌≡◌, ◌≤◌, ℕ, Bool, true, false, List, [], length, take, min, Result, Ok, Err, inl, inr, refl, sym, arith}
+use Rattle.uart_run.proofs.Names.{append-nil, length-take, take-take, characters, Access, Config, ByteReceiveError, InvalidDivisorError}
+use Rattle.uart_run.proofs.Names.{Received, FifoSize, SendsBurst, Did, Doing, fields, settings_of, SetsFrame, Inits, InitsWith}
+use Rattle.uart_run.proofs.Names.{SetsFrameWhenIdle, Settings, TryReceiveWithErrors, ReceivesWithErrors, Sends, burst_size, did_among}
+use Rattle.uart_run.proofs.Names.{did_made, Call, Answer, frame_answer, frame_when_idle_answer, init_answer, MachineStep, at_least_16}
+use Rattle.uart_run.proofs.Names.{Driver, StandsFor, found_in, ReceivesOne, SendsParts, SendsFront, WritesBytes, ReadsControl, StandsIf}
+use Rattle.uart_run.proofs.Names.{ChecksInit, ChecksInitWith, ChecksFrame, ChecksFrameWhenIdle}
+use Rattle.uart_16550.specs.Checked.{IfComputable}
 use Rattle.uart_events.specs.declared.call.Call.TheVariants as call
-use Rattle.uart_events.specs.declared.call.Answer.{Answer}
-use Rattle.uart_calls.specs.Meaning.{frame_answer, frame_when_idle_answer, init_answer}
-use Rattle.uart_chip.specs.Machine.{MachineStep}
-use Rattle.uart_chip.proofs.Sizes.{at_least_16}
-use Rattle.uart_run.specs.StandsFor.{Driver, StandsFor, found_in, ReceivesOne, SendsParts, SendsFront, WritesBytes, ReadsControl, StandsIf}
-use Rattle.uart_run.specs.StandsFor.{ChecksInit, ChecksInitWith, ChecksFrame, ChecksFrameWhenIdle}
 
 -- ---- calls that send and receive
 

@@ -1,32 +1,15 @@
 -- What `lsr` and `msr` tell in a session, carried over its calls.
-use Rattle.std.proofs.Common.{◌≡◌, ℕ, Bool, List, [], ◌∷◌, ◌++◌, take, Option, refl, sym, ◌∙◌, ap, subst, bit_or}
+use Rattle.uart_run.proofs.Names.{◌≡◌, ℕ, Bool, List, [], ◌∷◌, ◌++◌, take, Option, refl, sym, ◌∙◌, ap, subst, bit_or, Path, Access, Read}
+use Rattle.uart_run.proofs.Names.{Doing, Fields, fields, TakesLsr, TakesMsr, inner_of, Call, Answer, Register, CalledAs, Character}
+use Rattle.uart_run.proofs.Names.{MachineState, MachineStep, reported_front, IsTold, AllTold, State, machine_of, CallStep, Link, Chain}
+use Rattle.uart_run.proofs.Names.{reported, received, AllNoLsr, AllNoMsr, TellsLine, TellsNoOtherDrop, TellsNoOtherChange, Modes, fixed}
+use Rattle.uart_run.proofs.Names.{cut_of, IsOpen, taken_entered, look_clears, status_clears}
 use Rattle.uart_spec.specs.declared.registers.offsets.TheConstants as offsets
-use Rattle.uart_spec.specs.Access.{Path}
-use Rattle.uart_spec.specs.declared.access.Access.{Access}
-use Rattle.uart_spec.specs.declared.access.Access.TheVariants.{Read}
-use Rattle.uart_16550.specs.Driver.{Doing, Fields, fields}
-use Rattle.uart_16550.specs.Status.{TakesLsr, TakesMsr}
-use Rattle.uart_16550.specs.Tty.{inner_of}
-use Rattle.uart_events.specs.declared.call.Call.{Call}
 use Rattle.uart_events.specs.declared.call.Call.TheVariants as call
-use Rattle.uart_events.specs.declared.call.Answer.{Answer}
-use Rattle.uart_events.specs.declared.call.Answer.TheVariants.{Register}
-use Rattle.uart_calls.specs.Meaning.{CalledAs}
-use Rattle.uart_chip.specs.declared.receiver.Character.{Character}
-use Rattle.uart_chip.specs.Machine.{MachineState, MachineStep}
-use Rattle.uart_chip.specs.Laws.{reported_front, IsTold, AllTold}
-use Rattle.uart_run.specs.Run.{State, machine_of, CallStep, Link, Chain}
-use Rattle.uart_run.specs.Session.{reported, received}
-use Rattle.uart_run.specs.Statuses.{AllNoLsr, AllNoMsr, receiver_of, TellsLine, TellsNoOtherDrop, TellsNoOtherChange, Tells}
-use Rattle.uart_chip.proofs.conservation.Went.{Modes, fixed}
-use Rattle.uart_chip.specs.Chip.{cut_of}
-use Rattle.uart_chip.proofs.conservation.BlockLaws.{IsOpen}
-use Rattle.uart_chip.proofs.conservation.SessionLaws.{taken_entered, look_clears, status_clears}
+use Rattle.uart_run.specs.Statuses.{receiver_of, Tells}
 use Rattle.uart_chip.proofs.statuses.StatusLaws.{LsrTells, lsr_tells, MsrTells, msr_tells}
-use Rattle.uart_run.proofs.Chains.{step_is, ended}
-use Rattle.uart_run.proofs.CallLaws.{Passes, InSession}
-use Rattle.uart_run.proofs.FrameLaws.{GoOn, AllAt, session_fits, in_session-gone, same_cut}
-use Rattle.uart_run.proofs.SessionCalls.{goes_chain}
+use Rattle.uart_run.proofs.{Chains.step_is, Chains.ended, CallLaws.Passes, CallLaws.InSession, FrameLaws.GoOn, FrameLaws.AllAt}
+use Rattle.uart_run.proofs.{FrameLaws.session_fits, FrameLaws.in_session-gone, FrameLaws.same_cut, SessionCalls.goes_chain}
 
 -- ---- lists of calls
 

@@ -1,18 +1,9 @@
 -- That lines and a break may be switched in a session.
-use Rattle.std.proofs.Common.{ℕ, Bool, refl}
+use Rattle.uart_run.proofs.Names.{ℕ, Bool, refl, Language, Made, SetsBreak, SetsOutput, Uart16550, did_made, MachineState, MachineStep}
+use Rattle.uart_run.proofs.Names.{Ready, BurstsFit, under_terminal, machine_of}
 use Rattle.uart_spec.specs.declared.registers.modem_control.TheConstants.MCR
-use Rattle.uart_16550.specs.Grammar.{Language}
-use Rattle.uart_16550.specs.Driver.{Made}
-use Rattle.uart_16550.specs.Frame.{SetsBreak, SetsOutput}
-use Rattle.uart_16550.specs.declared.driver.Uart16550.{Uart16550}
-use Rattle.uart_16550.proofs.Doings.{did_made}
-use Rattle.uart_chip.specs.Machine.{MachineState, MachineStep}
-use Rattle.uart_run.specs.Ready.{Ready, BurstsFit}
-use Rattle.uart_run.specs.ReceivedErrors.{under_terminal}
-use Rattle.uart_run.specs.Run.{machine_of}
-use Rattle.uart_run.proofs.NeverSwitched.{NeverEver, unwritten}
-use Rattle.uart_run.proofs.SizeKept.{left_ever, fits_after}
-use Rattle.uart_run.proofs.FrameLaws.{set_output_ready, set_break_ready}
+use Rattle.uart_run.proofs.{NeverSwitched.NeverEver, NeverSwitched.unwritten, SizeKept.left_ever, SizeKept.fits_after}
+use Rattle.uart_run.proofs.{FrameLaws.set_output_ready, FrameLaws.set_break_ready}
 
 -- a call that saves what it reads changes no size
 switched_fits : (before after : Uart16550 MachineState) (L : Language) → (made : Made MachineStep L before after) →

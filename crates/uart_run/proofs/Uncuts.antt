@@ -1,22 +1,13 @@
 -- A run over a machine without the option: nothing is cut.
-use Rattle.std.proofs.Common.{◌≡◌, ◌⊎◌, ℕ, Bool, false, List, [], ◌∷◌, ◌++◌, map, refl, ap, sym, ◌∙◌, subst}
-use Rattle.std.specs.List.{filter}
-use Rattle.std.proofs.lemmas.List.{map-id}
+use Rattle.uart_run.proofs.Names.{◌≡◌, ◌⊎◌, ℕ, Bool, false, List, [], ◌∷◌, ◌++◌, map, refl, ap, sym, ◌∙◌, subst, filter, map-id, Character}
+use Rattle.uart_run.proofs.Names.{Call, Answer, Done, LoopbackRefused, ChipState, word_length, cut_to, cut_of, MachineState, stands}
+use Rattle.uart_run.proofs.Names.{arriving, cut_character, between, entered, State, machine_of, Link, Chain, is_narrow, test_answer}
+use Rattle.uart_run.proofs.Names.{reported, Conserves, Follows, AllFollow, Ran, IsUncut, entered_uncut, ConservesUncut, TestsUncut}
+use Rattle.uart_run.proofs.Names.{FollowsUncut, AllFollowUncut, RanUncut, IsSound}
 use Rattle.uart_spec.specs.declared.errors.LoopbackError.TheVariants.{Stalled}
-use Rattle.uart_chip.specs.declared.receiver.Character.{Character}
-use Rattle.uart_events.specs.declared.call.Call.{Call}
 use Rattle.uart_events.specs.declared.call.Call.TheVariants as call
-use Rattle.uart_events.specs.declared.call.Answer.{Answer}
-use Rattle.uart_events.specs.declared.call.Answer.TheVariants.{Done, LoopbackRefused}
-use Rattle.uart_chip.specs.Chip.{ChipState, word_length, cut_to, cut_of}
-use Rattle.uart_chip.specs.Machine.{MachineState}
-use Rattle.uart_chip.specs.Conserved.{out, stands, arriving, cut_character, between, entered}
-use Rattle.uart_run.specs.Run.{State, machine_of, Link, Chain}
-use Rattle.uart_run.specs.Ready.{is_narrow, test_answer}
-use Rattle.uart_run.specs.Session.{reported, Conserves, Follows, AllFollow, Ran}
-use Rattle.uart_run.specs.Uncut.{IsUncut, entered_uncut, ConservesUncut, TestsUncut, FollowsUncut, AllFollowUncut, RanUncut}
+use Rattle.uart_chip.specs.Conserved.{out}
 use Rattle.uart_run.proofs.Latches.{cuts_path, cuts_mark}
-use Rattle.uart_chip.specs.Sound.{IsSound}
 use Rattle.uart_run.proofs.Sessions.{Lasts, lasts_call, lasts_chain, sound_chain, uncut_session_conserves}
 
 lasts_uncut : Lasts (λ (m : MachineState). m.chip.cuts ≡ false)

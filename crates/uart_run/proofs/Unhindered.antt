@@ -1,30 +1,17 @@
 -- In a ready state no call changes the size of the FIFOs, so where no call is held up, none is at the next. And in a session the wire fills
 -- by no more than its calls are to send, so room for all of it at the start is room for each.
-use Rattle.std.proofs.Common.{◌≡◌, ℕ, ◌+◌, ◌≤◌, Bool, ◌&&◌, List, [], ◌∷◌, ◌++◌, length, map, take, refl, arith, sym, ◌∙◌, ap, subst}
-use Rattle.std.proofs.Common.{length-append}
-use Rattle.std.proofs.lemmas.List.{append_assoc, append-nil, length-map, length-take}
-use Rattle.uart_spec.specs.Bits.{has_any}
+use Rattle.uart_run.proofs.Names.{◌≡◌, ℕ, ◌+◌, ◌≤◌, Bool, ◌&&◌, List, [], ◌∷◌, ◌++◌, length, map, take, refl, arith, sym, ◌∙◌, ap, subst}
+use Rattle.uart_run.proofs.Names.{length-append, append_assoc, append-nil, length-map, length-take, has_any, expansion, Call, Answer, Done}
+use Rattle.uart_run.proofs.Names.{cut_of, MachineState, never_on, same_pace, same_pace-mark, EachLink, State, machine_of, CallStep, Link}
+use Rattle.uart_run.proofs.Names.{Chain, transmitter_of, IsWired, HasRoom, IsUnchecked, IsUnheld, KeepsChecks, GoesOn, AllCalls, Conserves}
+use Rattle.uart_run.proofs.Names.{Follows, AllFollow, Ran, count_of, sent_of, sent_byte_of, reported_by}
 use Rattle.uart_spec.specs.declared.registers.modem_control.TheConstants.MCR
-use Rattle.uart_16550.specs.Expansion.{expansion}
-use Rattle.uart_events.specs.declared.call.Call.{Call}
 use Rattle.uart_events.specs.declared.call.Call.TheVariants as call
-use Rattle.uart_events.specs.declared.call.Answer.{Answer}
-use Rattle.uart_events.specs.declared.call.Answer.TheVariants.{Done, Stalled}
-use Rattle.uart_chip.specs.Chip.{cut_of}
+use Rattle.uart_events.specs.declared.call.Answer.TheVariants.{Stalled}
 use Rattle.uart_chip.specs.Conserved.{out}
-use Rattle.uart_chip.specs.Machine.{MachineState}
-use Rattle.uart_chip.proofs.AutoFlow.{never_on}
-use Rattle.uart_chip.proofs.lasting.Constants.{same_pace, same_pace-mark}
-use Rattle.uart_run.specs.Chains.{EachLink}
-use Rattle.uart_run.specs.Run.{State, machine_of, CallStep, Link, Chain}
-use Rattle.uart_run.specs.Served.{transmitter_of}
-use Rattle.uart_run.specs.Wired.{IsWired}
-use Rattle.uart_run.specs.Progress.{HasRoom, IsUnchecked, IsUnheld, KeepsChecks}
-use Rattle.uart_run.specs.Session.{GoesOn, AllCalls, Conserves, Follows, AllFollow, Ran, count_of, sent_of, sent_byte_of, reported_by}
 use Rattle.uart_run.specs.Unhindered.{IsUnhindered, to_send, Ends, EndsWithRoom, CallsEnd, CallsSucceed}
-use Rattle.uart_run.specs.Unhindered.{all_to_send, SessionEnds, SessionsSucceed}
-use Rattle.uart_run.proofs.SizeKept.{keeps_size}
-use Rattle.uart_run.proofs.Sessions.{Lasts, lasts_call, goes_on}
+use Rattle.uart_run.specs.Unhindered.{all_to_send, SessionsSucceed}
+use Rattle.uart_run.proofs.{SizeKept.keeps_size, Sessions.Lasts, Sessions.lasts_call, Sessions.goes_on}
 
 -- ---- one call
 

@@ -1,32 +1,15 @@
 -- A wired machine stays wired, and a write of MCR changes no line of one that stays outside of loopback.
-use Rattle.std.proofs.Common.{◌≡◌, ℕ, zero, suc, Bool, true, false, not, ◌==◌, ◌&&◌, List, [], ◌∷◌, refl, sym, ◌∙◌, ap, subst}
-use Rattle.std.proofs.Common.{bit_and, bit_or, arith}
-use Rattle.std.proofs.lemmas.Grind.{common_steps}
-use Rattle.uart_events.specs.declared.event.Event.{Event}
-use Rattle.uart_events.specs.declared.event.Event.TheVariants.{Ticks, Lines, Access as Gate, Mark}
-use Rattle.uart_spec.specs.Access.{Path}
-use Rattle.uart_spec.specs.Bits.{has_any}
+use Rattle.uart_run.proofs.Names.{◌≡◌, ℕ, zero, suc, Bool, true, false, not, ◌==◌, ◌&&◌, List, [], ◌∷◌, refl, sym, ◌∙◌, ap, subst, bit_and}
+use Rattle.uart_run.proofs.Names.{bit_or, arith, common_steps, Event, Ticks, Lines, Gate, Mark, Path, has_any, Access, Read, Write}
+use Rattle.uart_run.proofs.Names.{kept_mcr, ChipState, ticks, after_read, after_write, MachineState, MachineStep, perform, before_access}
+use Rattle.uart_run.proofs.Names.{at_access, before_mark, at_mark, IsSoundChip, sound_access, sound_write, sends-refl, receives-refl}
+use Rattle.uart_run.proofs.Names.{reports-refl, LinesChanged, Modes, IsIn, loopback, loopback-in, marked-in, Went, Passed, passed-effect}
+use Rattle.uart_run.proofs.Names.{IsOpen, Stands, IsWiredChip, ReadMove, takes, read_move, WriteMove, steers, write_lasts}
 use Rattle.uart_spec.specs.Lines.{line_changes}
-use Rattle.uart_spec.specs.declared.access.Access.{Access}
-use Rattle.uart_spec.specs.declared.access.Access.TheVariants.{Read, Write}
 use Rattle.uart_spec.specs.declared.registers.modem_control.TheConstants.MCR
 use Rattle.uart_spec.specs.declared.registers.modem_status.TheConstants.MSR
 use Rattle.uart_spec.specs.declared.registers.offsets.TheConstants as offsets
-use Rattle.uart_chip.specs.Masks.{kept_mcr}
 use Rattle.uart_chip.specs.Modem.{ModemState, renew, lines_under}
-use Rattle.uart_chip.specs.Chip.{ChipState, ticks, after_read, after_write}
-use Rattle.uart_chip.specs.Machine.{MachineState, MachineStep, perform, before_access, at_access, before_mark, at_mark}
-use Rattle.uart_chip.specs.Sound.{IsSoundChip}
-use Rattle.uart_chip.proofs.soundness.Sounds.{sound_access, sound_write}
-use Rattle.uart_chip.proofs.conservation.Sends.{sends-refl}
-use Rattle.uart_chip.proofs.conservation.Receives.{receives-refl}
-use Rattle.uart_chip.proofs.statuses.Reports.{reports-refl}
-use Rattle.uart_chip.proofs.statuses.LinesChanged.{LinesChanged}
-use Rattle.uart_chip.proofs.conservation.Went.{Modes, IsIn, loopback, loopback-in, marked-in, Went}
-use Rattle.uart_chip.proofs.conservation.Passed.{Passed, passed-effect}
-use Rattle.uart_chip.proofs.conservation.BlockLaws.{IsOpen, Stands}
-use Rattle.uart_run.specs.Wired.{IsWiredChip}
-use Rattle.uart_chip.proofs.AccessMoves.{ReadMove, takes, read_move, WriteMove, steers, write_lasts}
 
 -- ---- what happens to a chip
 

@@ -1,21 +1,15 @@
 -- What each call of a run does is built so.
-use Rattle.std.proofs.Common.{[], ◌∷◌, refl}
-use Rattle.uart_spec.specs.declared.access.Access.TheVariants.{Read}
+use Rattle.uart_run.proofs.Names.{[], ◌∷◌, refl, Read, Call, meaning, outcome_of, doing_of, SendsShortText}
 use Rattle.uart_spec.specs.declared.registers.offsets.TheConstants as offsets
-use Rattle.uart_events.specs.declared.call.Call.{Call}
 use Rattle.uart_events.specs.declared.call.Call.TheVariants as call
-use Rattle.uart_calls.specs.Meaning.{meaning, outcome_of, doing_of, SendsShortText}
 use Rattle.uart_run.proofs.built.Words.{Kinds, Does, only, asks, among, wider, saves, sets, by_fields, among_does, wider_does}
 use Rattle.uart_run.proofs.built.Receive.{ready_to_receive, try_receive, receives, receives_exact, receives_with_errors, reads_some}
-use Rattle.uart_run.proofs.built.Receive.{flushes, answers_read}
+use Rattle.uart_run.proofs.{built.Receive.flushes, built.Receive.answers_read, built.Init.checks_presence, built.Loopback.tests_loopback}
+use Rattle.uart_run.proofs.{built.Status.changes_lcr, built.Status.changes_mcr, built.Status.dumps, built.Status.checks_configured}
+use Rattle.uart_run.proofs.{built.SettingUp.sets_trigger, built.SettingUp.quiesces, built.SettingUp.restores, built.SettingUp.attaches}
 use Rattle.uart_run.proofs.built.Transmit.{ready_to_send, try_sends, sends, sends_exact, writes, answers_write, sends_text}
-use Rattle.uart_run.proofs.built.Init.{checks_presence}
-use Rattle.uart_run.proofs.built.Loopback.{tests_loopback}
 use Rattle.uart_run.proofs.built.Status.{without_fcr, calm, takes_lsr, takes_msr, connects, reads_divisor, enables, disables, retriggers}
-use Rattle.uart_run.proofs.built.Status.{changes_lcr, changes_mcr, dumps, checks_configured}
 use Rattle.uart_run.proofs.built.SettingUp.{any, putting_back, without_lcr, inits, inits_with, sets_frame, sets_frame_when_idle}
-use Rattle.uart_run.proofs.built.SettingUp.{sets_trigger, quiesces}
-use Rattle.uart_run.proofs.built.SettingUp.{restores, attaches}
 
 -- six calls write FCR, three of them with LCR; of the others these read ISR or write IER. Two may change whether CTS is checked
 abbrev pub kinds_of : Call → Kinds

@@ -1,11 +1,8 @@
 -- The lists of the presence check, of the FIFO step, and of the drain.
-use Rattle.std.proofs.Common.{ℕ, Bool, true, false, [], ◌∷◌, refl, Option, Some, None}
-use Rattle.uart_spec.specs.declared.registers.fifo_trigger_level.FifoTriggerLevel.{FifoTriggerLevel}
+use Rattle.uart_run.proofs.Names.{ℕ, Bool, true, false, [], ◌∷◌, refl, Option, Some, None, FifoTriggerLevel, Read, Write, Keeps}
+use Rattle.uart_run.proofs.Names.{KeepsPatterns, ChecksPresence, SetsFifo, Discards, DrainsReceiver, most_waiting, ChecksIf, WaitsIf}
+use Rattle.uart_run.proofs.Names.{is_first, Looks, Setup}
 use Rattle.uart_spec.specs.declared.registers.offsets.TheConstants as offsets
-use Rattle.uart_spec.specs.declared.access.Access.TheVariants.{Read, Write}
-use Rattle.uart_16550.specs.Init.{Keeps, KeepsPatterns, ChecksPresence, SetsFifo, Discards, DrainsReceiver, most_waiting}
-use Rattle.uart_16550.specs.Setup.{ChecksIf, WaitsIf, is_first, Looks}
-use Rattle.uart_spec.specs.declared.setup.Setup.{Setup}
 use Rattle.uart_spec.specs.declared.registers.line_status.TheConstants.LSR
 use Rattle.uart_run.proofs.built.Words.{wider, Kinds, nothing, Built, only, exactly, asks, then, times, never, either, some, among, reads}
 use Rattle.uart_run.proofs.built.Receive.{looking, receiving, miss, waits_for}

@@ -1,19 +1,14 @@
 -- The lists of the loopback test.
-use Rattle.std.proofs.Common.{ℕ, Bool, true, false, List, [], ◌∷◌, refl, Result, Ok, Err, Option, Some, None}
-use Rattle.uart_spec.specs.declared.errors.LoopbackError.{LoopbackError}
-use Rattle.uart_spec.specs.declared.errors.LoopbackError.TheVariants.{Stalled, SendError, UnexpectedLoopbackByte, UnexpectedLoopbackMsg}
+use Rattle.uart_run.proofs.Names.{ℕ, Bool, true, false, List, [], ◌∷◌, refl, Result, Ok, Err, Option, Some, None, LoopbackError, SendError}
+use Rattle.uart_run.proofs.Names.{UnexpectedLoopbackByte, UnexpectedLoopbackMsg, Read, InOrder, test_byte, test_message, TakesOne}
+use Rattle.uart_run.proofs.Names.{DrainsLoopback, SendsTestByte, ExchangesByte, Echo, EchoFails, HasEchoedWhole, HasEchoedEach}
+use Rattle.uart_run.proofs.Names.{HasEchoedAll, ExchangesMessage, Exchanges, BeginsTest, EntersAt, Enters, Leaves, Inside, FromEmpty}
+use Rattle.uart_run.proofs.Names.{TestsLoopback, Doing, FifoTriggerLevel}
+use Rattle.uart_spec.specs.declared.errors.LoopbackError.TheVariants.{Stalled}
 use Rattle.uart_spec.specs.declared.registers.offsets.TheConstants as offsets
-use Rattle.uart_spec.specs.declared.access.Access.TheVariants.{Read}
-use Rattle.uart_16550.specs.Grammar.{InOrder}
-use Rattle.uart_16550.specs.Loopback.{test_byte, test_message, TakesOne, DrainsLoopback, SendsTestByte, ExchangesByte, Echo}
-use Rattle.uart_16550.specs.Loopback.{EchoFails, HasEchoedWhole, HasEchoedEach, HasEchoedAll, ExchangesMessage, Exchanges, BeginsTest}
-use Rattle.uart_16550.specs.Loopback.{EntersAt, Enters, Leaves, Inside, FromEmpty, TestsLoopback}
-use Rattle.uart_16550.specs.Driver.{Doing}
-use Rattle.uart_spec.specs.declared.registers.fifo_trigger_level.FifoTriggerLevel.{FifoTriggerLevel}
 use Rattle.uart_run.proofs.built.Words.{Does, next, saves, looks, sets, some_does, either_does, by_fields, among_does, wider_does}
-use Rattle.uart_run.proofs.built.Init.{sets_fifo}
+use Rattle.uart_run.proofs.{built.Init.sets_fifo, built.Words.few}
 use Rattle.uart_run.proofs.built.Words.{Kinds, nothing, Built, only, then, limited, in_order, never, if_fifo, either, some, among, wider}
-use Rattle.uart_run.proofs.built.Words.{few}
 use Rattle.uart_run.proofs.built.Receive.{receiving, waits_for, miss, hit, awaited, receives_exact}
 use Rattle.uart_run.proofs.built.Transmit.{sending, send_miss, round, try_sends, sends_all, sends_exact}
 

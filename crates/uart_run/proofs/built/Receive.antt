@@ -1,14 +1,10 @@
 -- The lists of the receiving calls.
-use Rattle.std.proofs.Common.{ℕ, Bool, true, false, List, [], ◌∷◌, refl, Result, Ok, Err}
-use Rattle.uart_spec.specs.declared.errors.StalledError.{StalledError}
+use Rattle.uart_run.proofs.Names.{ℕ, Bool, true, false, List, [], ◌∷◌, refl, Result, Ok, Err, StalledError, Read, Miss, Awaited}
+use Rattle.uart_run.proofs.Names.{ReceivesExact, ReadyToReceive, TryReceive, Receives, HitWithErrors, ReceivesWithErrors, ReceivesSome}
+use Rattle.uart_run.proofs.Names.{Reads, Flushes, AnswersRead, Received, WaitsFor}
 use Rattle.uart_spec.specs.declared.registers.offsets.TheConstants as offsets
-use Rattle.uart_spec.specs.declared.access.Access.TheVariants.{Read}
-use Rattle.uart_16550.specs.Receive.{Hit, Miss, Awaited, ReceivesExact, ReadyToReceive, TryReceive, Receives, HitWithErrors}
-use Rattle.uart_16550.specs.Receive.{ReceivesWithErrors, ReceivesSome}
-use Rattle.uart_16550.specs.Io.{Reads, Flushes, AnswersRead}
-use Rattle.uart_spec.specs.declared.received.Received.{Received}
+use Rattle.uart_16550.specs.Receive.{Hit}
 use Rattle.uart_spec.specs.declared.registers.line_status.TheConstants.LSR
-use Rattle.uart_16550.specs.Transmit.{WaitsFor}
 use Rattle.uart_run.proofs.built.Words.{Kinds, nothing, Built, only, asks, then, limited, in_order, among, few}
 use Rattle.uart_run.proofs.built.Words.{exactly, either, some, never}
 

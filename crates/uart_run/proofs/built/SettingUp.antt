@@ -1,37 +1,20 @@
 -- What the calls do that set up the line and the FIFOs, and those that take, leave and put back a port.
-use Rattle.std.proofs.Common.{◌≡◌, ℕ, Bool, true, false, [], ◌∷◌, refl, Result, Ok, Err, Option}
-use Rattle.bitflags.specs.Sets.{without}
-use Rattle.uart_spec.specs.Dump.{divisor_of}
-use Rattle.uart_spec.specs.declared.access.Access.TheVariants.{Write}
-use Rattle.uart_spec.specs.declared.config.Config.{Config}
-use Rattle.uart_spec.specs.declared.dump.ConfigRegisterDump.{ConfigRegisterDump}
-use Rattle.uart_spec.specs.declared.errors.AttachError.{AttachError}
-use Rattle.uart_spec.specs.declared.errors.AttachError.TheVariants.{DivisorLatchOpen, Loopback, NoDivisor}
-use Rattle.uart_spec.specs.declared.errors.FifosOffError.{FifosOffError}
-use Rattle.uart_spec.specs.declared.errors.FrameError.{FrameError}
+use Rattle.uart_run.proofs.Names.{◌≡◌, ℕ, Bool, true, false, [], ◌∷◌, refl, Result, Ok, Err, Option, without, divisor_of, Write, Config}
+use Rattle.uart_run.proofs.Names.{ConfigRegisterDump, AttachError, DivisorLatchOpen, Loopback, NoDivisor, FifosOffError, FrameError}
+use Rattle.uart_run.proofs.Names.{InitError, InvalidBaudRate, DeviceNotPresent, InvalidDivisorError, FifoTriggerLevel, FifoAction, Keep}
+use Rattle.uart_run.proofs.Names.{Setup, Doing, Saving, Plain, Sets, Next, with_fifo, FindsLoopback, FindsDivisor, FindsPort, Attaches}
+use Rattle.uart_run.proofs.Names.{SetsFrame, frame_writes, unlooped, ChecksPresence, DrainsReceiver, line_writes, frame_bits}
+use Rattle.uart_run.proofs.Names.{raised_outputs, SetsFifo, Begins, Ends, Inits, Language, Only, Then, SetsTrigger, SetsFrameWhenIdle}
+use Rattle.uart_run.proofs.Names.{SetsUp, InitsWith, fifo_writes, stays_on, Quiesces, dumped_level, last_writes, Restores, is_last}
 use Rattle.uart_spec.specs.declared.errors.FrameError.TheVariants as frame_error
-use Rattle.uart_spec.specs.declared.errors.InitError.{InitError}
-use Rattle.uart_spec.specs.declared.errors.InitError.TheVariants.{InvalidBaudRate, DeviceNotPresent, Stalled}
-use Rattle.uart_spec.specs.declared.errors.InvalidDivisorError.{InvalidDivisorError}
-use Rattle.uart_spec.specs.declared.registers.fifo_trigger_level.FifoTriggerLevel.{FifoTriggerLevel}
+use Rattle.uart_spec.specs.declared.errors.InitError.TheVariants.{Stalled}
 use Rattle.uart_spec.specs.declared.registers.line_control.TheConstants.LCR
 use Rattle.uart_spec.specs.declared.registers.offsets.TheConstants as offsets
-use Rattle.uart_spec.specs.declared.setup.FifoAction.{FifoAction}
-use Rattle.uart_spec.specs.declared.setup.FifoAction.TheVariants.{Keep}
-use Rattle.uart_spec.specs.declared.setup.Setup.{Setup}
-use Rattle.uart_16550.specs.Driver.{Doing, Saving, Plain, Sets, Next, with_fifo}
-use Rattle.uart_16550.specs.Attach.{FindsLoopback, FindsDivisor, FindsPort, Attaches}
-use Rattle.uart_16550.specs.Frame.{SetsFrame, frame_writes, unlooped}
-use Rattle.uart_16550.specs.Init.{ChecksPresence, DrainsReceiver, line_writes, frame_bits, raised_outputs, SetsFifo, Begins, Ends, Inits}
-use Rattle.uart_16550.specs.Grammar.{Language, Only, Then}
-use Rattle.uart_16550.specs.Setup.{SetsTrigger, SetsFrameWhenIdle, SetsUp, InitsWith, fifo_writes, stays_on, Quiesces, dumped_level}
-use Rattle.uart_16550.specs.Setup.{last_writes, Restores, is_last}
 use Rattle.uart_run.proofs.built.Words.{Kinds, nothing, but_checks, anything, Built, Does, are_of, only, asks, then, wider, reads, saves}
-use Rattle.uart_run.proofs.built.Words.{looks, sets, next, either_does}
-use Rattle.uart_run.proofs.built.Words.{some_does, by_fields, among_does, wider_does}
-use Rattle.uart_run.proofs.built.Receive.{waits_for}
+use Rattle.uart_run.proofs.{built.Words.looks, built.Words.sets, built.Words.next, built.Words.either_does, built.Words.some_does}
+use Rattle.uart_run.proofs.{built.Words.by_fields, built.Words.among_does, built.Words.wider_does, built.Receive.waits_for}
+use Rattle.uart_run.proofs.{built.Status.registers, built.Status.without_fcr, built.Status.calm, built.Status.reads_divisor}
 use Rattle.uart_run.proofs.built.Init.{checks_presence, checks_if, waits_if, looks_first, sets_fifo, drains_receiver}
-use Rattle.uart_run.proofs.built.Status.{registers, without_fcr, calm, reads_divisor}
 
 -- all registers are read and written; or all but LCR
 abbrev pub any : Kinds

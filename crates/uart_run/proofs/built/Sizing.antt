@@ -1,17 +1,11 @@
 -- The lists of `find_fifo_size`, and what comes first in `enable_64_byte_fifos`.
-use Rattle.std.proofs.Common.{ℕ, Bool, true, false, [], ◌∷◌, refl, Result, Option}
-use Rattle.uart_spec.specs.declared.errors.FifoSizeError.{FifoSizeError}
-use Rattle.uart_spec.specs.declared.setup.FifoSize.{FifoSize}
+use Rattle.uart_run.proofs.Names.{ℕ, Bool, true, false, [], ◌∷◌, refl, Result, Option, FifoSizeError, FifoSize, Read, Write, test_byte}
+use Rattle.uart_run.proofs.Names.{DrainsLoopback, flood, Floods, TakesBack, Measures, BeginsEnabling, SwitchesFifo, Sizes, FindsFifoSize}
+use Rattle.uart_run.proofs.Names.{level_of, FifoTriggerLevel}
 use Rattle.uart_spec.specs.declared.registers.offsets.TheConstants as offsets
-use Rattle.uart_spec.specs.declared.access.Access.TheVariants.{Read, Write}
-use Rattle.uart_16550.specs.Loopback.{test_byte, DrainsLoopback}
-use Rattle.uart_16550.specs.Sizing.{flood, Floods, TakesBack, Measures, BeginsEnabling, SwitchesFifo, Sizes, FindsFifoSize}
-use Rattle.uart_16550.specs.Setup.{level_of}
-use Rattle.uart_spec.specs.declared.registers.fifo_trigger_level.FifoTriggerLevel.{FifoTriggerLevel}
 use Rattle.uart_run.proofs.built.Words.{Does, next, saves, sets, some_does, either_does, by_fields, among_does, wider_does}
-use Rattle.uart_run.proofs.built.Init.{stepping, sets_fifo}
+use Rattle.uart_run.proofs.{built.Init.stepping, built.Init.sets_fifo, built.Receive.receiving, built.Receive.waits_for, built.Receive.miss}
 use Rattle.uart_run.proofs.built.Words.{Kinds, nothing, Built, only, then, times, either, some, among, wider}
-use Rattle.uart_run.proofs.built.Receive.{receiving, waits_for, miss}
 use Rattle.uart_run.proofs.built.Loopback.{takes_one, drains_loopback, testing, enters_at, inside, from_empty}
 
 -- LSR and the data are read, and the data written

@@ -1,16 +1,10 @@
 -- What the register calls, the dump and `check_configured` do.
-use Rattle.std.proofs.Common.{ℕ, List, [], ◌∷◌, ◌++◌, refl, Result, Ok, Err}
-use Rattle.uart_spec.specs.declared.access.Access.TheVariants.{Read, Write}
-use Rattle.uart_spec.specs.declared.dump.ConfigRegisterDump.{ConfigRegisterDump}
-use Rattle.uart_spec.specs.declared.errors.RemoteReadyToReceiveError.{RemoteReadyToReceiveError}
-use Rattle.uart_spec.specs.declared.config.Config.{Config}
+use Rattle.uart_run.proofs.Names.{ℕ, List, [], ◌∷◌, ◌++◌, refl, Result, Ok, Err, Read, Write, ConfigRegisterDump, RemoteReadyToReceiveError}
+use Rattle.uart_run.proofs.Names.{Config, Language, Modifies, with_saved, with_interrupts, saving, TakesLsr, TakesMsr, Connects}
+use Rattle.uart_run.proofs.Names.{ReadsDivisor, Enables, Disables, Retriggers, Dumps, divisor_accesses, retrigger_accesses, dump_reads}
+use Rattle.uart_run.proofs.Names.{Verdict, InTurn, KeepsLine, OpensLatch, IsDivisor, ReadsLatch, ShowsDivisor, ShowsFifos, ShowsFrame}
+use Rattle.uart_run.proofs.Names.{ShowsOutputs, ShowsInterrupts, ShowsAll, ChecksConfigured, fifo_look}
 use Rattle.uart_spec.specs.declared.registers.offsets.TheConstants as offsets
-use Rattle.uart_16550.specs.Grammar.{Language, Modifies}
-use Rattle.uart_16550.specs.Driver.{with_saved, with_interrupts, saving}
-use Rattle.uart_16550.specs.Status.{TakesLsr, TakesMsr, Connects, ReadsDivisor, Enables, Disables, Retriggers, Dumps}
-use Rattle.uart_16550.specs.Status.{divisor_accesses, retrigger_accesses, dump_reads}
-use Rattle.uart_16550.specs.Configured.{Verdict, InTurn, KeepsLine, OpensLatch, IsDivisor, ReadsLatch, ShowsDivisor, ShowsFifos}
-use Rattle.uart_16550.specs.Configured.{ShowsFrame, ShowsOutputs, ShowsInterrupts, ShowsAll, ChecksConfigured, fifo_look}
 use Rattle.uart_run.proofs.built.Words.{Kinds, nothing, but_checks, Built, Does, only, exactly, then, either, some, among, makes}
 use Rattle.uart_run.proofs.built.Words.{some_does, among_does}
 

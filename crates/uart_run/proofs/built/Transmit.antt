@@ -1,17 +1,12 @@
 -- The lists of the sending calls.
-use Rattle.std.proofs.Common.{◌≡◌, ℕ, Bool, true, false, List, [], ◌∷◌, refl, Result, Ok, Err, Option, Some, None, take}
-use Rattle.uart_spec.specs.declared.errors.ByteSendError.{ByteSendError}
-use Rattle.uart_spec.specs.declared.errors.ByteSendError.TheVariants.{NoCapacity, RemoteNotClearToSend}
-use Rattle.uart_spec.specs.declared.errors.StalledError.{StalledError}
+use Rattle.uart_run.proofs.Names.{◌≡◌, ℕ, Bool, true, false, List, [], ◌∷◌, refl, Result, Ok, Err, Option, Some, None, take, ByteSendError}
+use Rattle.uart_run.proofs.Names.{NoCapacity, RemoteNotClearToSend, StalledError, LinesAllow, SendHit, SendRefused, SendMiss, data_writes}
+use Rattle.uart_run.proofs.Names.{Burst, Sends, TrySends, Round, SendsAll, SendsExact, ReadyToSend, SendsSome, Writes, AnswersWrite}
+use Rattle.uart_run.proofs.Names.{expansion, SendsEach, SendsText}
 use Rattle.uart_spec.specs.declared.registers.offsets.TheConstants as offsets
-use Rattle.uart_16550.specs.Transmit.{LinesAllow, SendHit, SendRefused, SendMiss, data_writes, Burst, Sends, TrySends}
-use Rattle.uart_16550.specs.Transmit.{Round, SendsAll, SendsExact, ReadyToSend, SendsSome}
-use Rattle.uart_16550.specs.Io.{Writes, AnswersWrite}
-use Rattle.uart_16550.specs.Expansion.{expansion, SendsEach, SendsText}
 use Rattle.uart_run.proofs.built.Words.{Kinds, nothing, Built, are_of, only, exactly, asks, then, limited, in_order, never, if_checks}
-use Rattle.uart_run.proofs.built.Words.{either}
-use Rattle.uart_run.proofs.built.Words.{some, among, few, wider}
-use Rattle.uart_run.proofs.built.Receive.{looking}
+use Rattle.uart_run.proofs.{built.Words.either, built.Words.some, built.Words.among, built.Words.few, built.Words.wider}
+use Rattle.uart_run.proofs.{built.Receive.looking}
 
 -- LSR and, for the lines, MCR and MSR are read, and the data written
 abbrev pub sending : Kinds

@@ -1,17 +1,10 @@
 -- Languages, and doings, that are built of the words of the grammar, as data. So what holds of the accesses of all of their lists is proved
 -- by one induction over the words, and of a call it is told only how it is built.
-use Rattle.std.proofs.Common.{◌≡◌, ◌⊎◌, ℕ, zero, suc, ◌==◌, ◌&&◌, ◌||◌, Bool, true, false, List, [], ◌∷◌, inl, inr, refl, ap, ◌∙◌}
-use Rattle.std.proofs.Common.{MatchBool}
-use Rattle.std.proofs.lemmas.Bool.{and_parts, or_cases, eqb-true, false≢true}
-use Rattle.std.specs.List.{AllByRecursion}
-use Rattle.uart_spec.specs.declared.access.Access.{Access}
-use Rattle.uart_spec.specs.declared.access.Access.TheVariants.{Read, Write}
-use Rattle.uart_spec.specs.declared.config.Config.{Config}
-use Rattle.uart_spec.specs.declared.setup.FifoSize.{FifoSize}
-use Rattle.uart_16550.specs.Grammar.{Language, Settings, Only, Then, InOrder, Times, FewMisses, AllMisses, Asks, ReadsRegister}
-use Rattle.uart_16550.specs.Grammar.{IfChecks, IfFifo, Never}
-use Rattle.uart_16550.specs.Driver.{Doing, Fields, Saving, Plain, Sets, Next, saving, settings_of}
-use Rattle.uart_chip.proofs.Lists.{each-append, each-weaker}
+use Rattle.uart_run.proofs.Names.{◌≡◌, ◌⊎◌, ℕ, zero, suc, ◌==◌, ◌&&◌, ◌||◌, Bool, true, false, List, [], ◌∷◌, inl, inr, refl, ap, ◌∙◌}
+use Rattle.uart_run.proofs.Names.{MatchBool, and_parts, or_cases, eqb-true, false≢true, AllByRecursion, Access, Read, Write, Config}
+use Rattle.uart_run.proofs.Names.{FifoSize, Language, Settings, Only, Then, InOrder, Times, FewMisses, AllMisses, Asks, ReadsRegister}
+use Rattle.uart_run.proofs.Names.{IfChecks, IfFifo, Never, Doing, Fields, Saving, Plain, Sets, Next, saving, settings_of, each-append}
+use Rattle.uart_run.proofs.Names.{each-weaker}
 use Rattle.uart_run.proofs.ListsInTurn.{HoldsOfAll, HoldsOfDoing}
 
 -- what may change of the driver's configuration: nothing; something, but not whether CTS is checked before sending; anything

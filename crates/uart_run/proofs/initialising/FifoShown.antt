@@ -1,12 +1,8 @@
 -- The interrupt identification shows whether the FIFO is on, and whether a chip with a size switch has FIFOs of 64.
-use Rattle.std.proofs.Common.{◌≡◌, ℕ, Bool, ◌&&◌, ◌∙◌, ap}
-use Rattle.uart_spec.specs.Bits.{has}
-use Rattle.uart_spec.specs.declared.access.Access.TheVariants.{Read}
+use Rattle.uart_run.proofs.Names.{◌≡◌, ℕ, Bool, ◌&&◌, ◌∙◌, ap, has, Read, ChipState, interrupt, is_64, answer, MachineState, MachineStep}
+use Rattle.uart_run.proofs.Names.{at_access, all_shown}
 use Rattle.uart_spec.specs.declared.registers.interrupt_status.TheConstants.ISR
 use Rattle.uart_spec.specs.declared.registers.offsets.TheConstants as offsets
-use Rattle.uart_chip.specs.Chip.{ChipState, interrupt, is_64, answer}
-use Rattle.uart_chip.specs.Machine.{MachineState, MachineStep, at_access}
-use Rattle.uart_chip.proofs.FifoBits.{all_shown}
 use Rattle.uart_run.proofs.Latches.{Kept, kept_access}
 
 -- what it shows of the size while the FIFO is on: the chip has the switch, and its FIFOs hold 64

@@ -1,26 +1,13 @@
 -- The FIFO step of an `init` or a loopback test: the FIFO is on afterwards where a level is configured and the chip
 -- has one, and the driver knows it.
-use Rattle.std.proofs.Common.{◌≡◌, ℕ, Bool, true, false, ◌&&◌, List, [], ◌∷◌, Option, Some, None, refl, sym, ◌∙◌, ap}
-use Rattle.uart_spec.specs.Bits.{has, has_any}
-use Rattle.uart_spec.specs.declared.registers.fifo_trigger_level.FifoTriggerLevel.{FifoTriggerLevel}
-use Rattle.uart_spec.specs.declared.registers.fifo_trigger_level.FifoTriggerLevel.TheVariants.{One}
+use Rattle.uart_run.proofs.Names.{◌≡◌, ℕ, Bool, true, false, ◌&&◌, List, [], ◌∷◌, Option, Some, None, refl, sym, ◌∙◌, ap, has, has_any}
+use Rattle.uart_run.proofs.Names.{FifoTriggerLevel, One, Path, Access, Read, Write, Settings, Only, Asks, fifo_bits, SetsFifo, Chip}
+use Rattle.uart_run.proofs.Names.{Uart16550A, Uart16450, MachineState, MachineStep, has_fifo, is_level, IsSound, path_as}
 use Rattle.uart_spec.specs.declared.registers.offsets.TheConstants as offsets
 use Rattle.uart_spec.specs.declared.registers.interrupt_status.TheConstants.ISR
-use Rattle.uart_spec.specs.Access.{Path}
-use Rattle.uart_spec.specs.declared.access.Access.{Access}
-use Rattle.uart_spec.specs.declared.access.Access.TheVariants.{Read, Write}
-use Rattle.uart_16550.specs.Grammar.{Settings, Only, Asks}
-use Rattle.uart_16550.specs.Init.{fifo_bits, SetsFifo}
-use Rattle.uart_events.specs.declared.event.Chip.{Chip}
-use Rattle.uart_events.specs.declared.event.Chip.TheVariants.{Uart16550A, Uart16450}
 use Rattle.uart_spec.specs.declared.registers.fifo_control.TheConstants.FCR
-use Rattle.uart_chip.specs.Machine.{MachineState, MachineStep}
-use Rattle.uart_run.specs.Ready.{has_fifo, is_level}
-use Rattle.uart_chip.specs.Sound.{IsSound}
-use Rattle.uart_chip.proofs.conservation.BlockLaws.{path_as}
-use Rattle.uart_run.proofs.Latches.{Kept, kept_in, keep_control, kept_list, kept_path}
-use Rattle.uart_run.proofs.initialising.FifoShown.{fifo_shown}
-use Rattle.uart_run.proofs.Pieces.{then_parts}
+use Rattle.uart_run.proofs.{Latches.Kept, Latches.kept_in, Latches.keep_control, Latches.kept_list, Latches.kept_path}
+use Rattle.uart_run.proofs.{initialising.FifoShown.fifo_shown, Pieces.then_parts}
 
 enables : (level : Option FifoTriggerLevel) → has_any (fifo_bits level) FCR.FIFO_ENABLE.0 ≡ (is_level level && true)
 enables (Some One) = refl

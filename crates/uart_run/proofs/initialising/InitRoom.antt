@@ -1,19 +1,10 @@
 -- An `init` that is done sends nothing, so what had room on the wire before it has room after it.
-use Rattle.std.proofs.Common.{ℕ, true, List, Ok, refl}
-use Rattle.uart_spec.specs.Access.{Path}
-use Rattle.uart_spec.specs.declared.access.Access.{Access}
-use Rattle.uart_spec.specs.declared.config.Config.{Config}
+use Rattle.uart_run.proofs.Names.{ℕ, true, List, Ok, refl, Path, Access, Config, Fields, Saving, Next, settings_of, Begins, Ends, Inits}
+use Rattle.uart_run.proofs.Names.{WaitsFor, MachineState, MachineStep}
 use Rattle.uart_spec.specs.declared.registers.line_status.TheConstants.LSR
-use Rattle.uart_16550.specs.Driver.{Fields, Saving, Next, settings_of}
-use Rattle.uart_16550.specs.Init.{Begins, Ends, Inits}
-use Rattle.uart_16550.specs.Transmit.{WaitsFor}
-use Rattle.uart_chip.specs.Machine.{MachineState, MachineStep}
-use Rattle.uart_run.proofs.built.Receive.{waits_for}
-use Rattle.uart_run.proofs.built.SettingUp.{ends}
-use Rattle.uart_run.proofs.Pieces.{next_stages}
-use Rattle.uart_run.proofs.SilentLists.{does_silently}
-use Rattle.uart_run.proofs.initialising.InitSucceeds.{free-begins, free-list}
-use Rattle.uart_run.proofs.progress.Nearing.{RunsWith, free-path}
+use Rattle.uart_run.proofs.{built.Receive.waits_for, built.SettingUp.ends, Pieces.next_stages, SilentLists.does_silently}
+use Rattle.uart_run.proofs.{initialising.InitSucceeds.free-begins, initialising.InitSucceeds.free-list, progress.Nearing.RunsWith}
+use Rattle.uart_run.proofs.{progress.Nearing.free-path}
 
 pub init_room : (config : Config) (room : ℕ) (f after : Fields) (l : List Access) (m n : MachineState) → RunsWith room m →
     Inits {T = Unit {0}} config (Ok tt) f l after → Path MachineStep m l n → RunsWith room n

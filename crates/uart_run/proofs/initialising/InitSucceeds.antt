@@ -1,53 +1,28 @@
 -- Where ticks come before each access, the spin limit is long enough and the wire has room, an `init` does not stall.
-use Rattle.std.proofs.Common.{◌≡◌, ◌≢◌, ℕ, ◌+◌, ◌*◌, ◌<◌, ◌%◌, ◌/◌, Bool, true, false, List}
-use Rattle.std.proofs.Common.{[], ◌∷◌, ◌++◌, Result, Ok, Err, refl, arith, sym, ◌∙◌, ap}
-use Rattle.std.proofs.Math.Nat.{mul-div_cancel_left}
-use Rattle.std.proofs.lemmas.Grind.{common_steps}
+use Rattle.uart_run.proofs.Names.{◌≡◌, ◌≢◌, ℕ, ◌+◌, ◌*◌, ◌<◌, ◌%◌, ◌/◌, Bool, true, false, List, [], ◌∷◌, ◌++◌, Result, Ok, Err, refl}
+use Rattle.uart_run.proofs.Names.{arith, sym, ◌∙◌, ap, mul-div_cancel_left, common_steps, Config, InvalidDivisorError, InitError}
+use Rattle.uart_run.proofs.Names.{InvalidBaudRate, DeviceNotPresent, Path, Access, Write, Language, Settings, Only, Then, WaitsFor, Fields}
+use Rattle.uart_run.proofs.Names.{fields, settings_of, Doing, Saving, Plain, Sets, Next, with_config, with_fifo, raised_outputs}
+use Rattle.uart_run.proofs.Names.{ChecksPresence, frame_bits, line_writes, SetsFifo, DrainsReceiver, Begins, DivisorOf, Inits, inner_of}
+use Rattle.uart_run.proofs.Names.{Answer, Done, InitRefused, has_any, is_dlab_set, MachineState, MachineStep, at_access, IsSound}
+use Rattle.uart_run.proofs.Names.{init_answer, State, machine_of, CallStep, HasDivisor, IsTimely, HasRoom, left, IsUnheld, path_as}
+use Rattle.uart_run.proofs.Names.{cleared_off}
 use Rattle.uart_spec.specs.Baud.{prescaler}
 use Rattle.uart_spec.specs.BaudRate.{to_integer}
-use Rattle.uart_spec.specs.declared.config.Config.{Config}
-use Rattle.uart_spec.specs.declared.errors.InvalidDivisorError.{InvalidDivisorError}
 use Rattle.uart_spec.specs.declared.errors.InvalidDivisorError.TheVariants.{NonInteger, OutOfRange}
-use Rattle.uart_spec.specs.declared.errors.InitError.{InitError}
-use Rattle.uart_spec.specs.declared.errors.InitError.TheVariants.{InvalidBaudRate, DeviceNotPresent, Stalled}
+use Rattle.uart_spec.specs.declared.errors.InitError.TheVariants.{Stalled}
 use Rattle.uart_spec.specs.declared.registers.offsets.TheConstants as offsets
 use Rattle.uart_spec.specs.declared.registers.line_status.TheConstants.LSR
 use Rattle.uart_spec.specs.declared.registers.line_control.TheConstants.LCR
-use Rattle.uart_spec.specs.Access.{Path}
-use Rattle.uart_spec.specs.declared.access.Access.{Access}
-use Rattle.uart_spec.specs.declared.access.Access.TheVariants.{Write}
-use Rattle.uart_16550.specs.Grammar.{Language, Settings, Only, Then}
-use Rattle.uart_16550.specs.Transmit.{WaitsFor}
-use Rattle.uart_16550.specs.Driver.{Fields, fields, settings_of, Doing, Saving, Plain, Sets, Next, with_config, with_fifo}
-use Rattle.uart_16550.specs.Init.{raised_outputs, ChecksPresence, frame_bits, line_writes}
-use Rattle.uart_16550.specs.Init.{SetsFifo, DrainsReceiver, Begins, DivisorOf, Inits}
-use Rattle.uart_16550.specs.Tty.{inner_of}
 use Rattle.uart_events.specs.declared.call.Call.TheVariants as call
-use Rattle.uart_events.specs.declared.call.Answer.{Answer}
-use Rattle.uart_events.specs.declared.call.Answer.TheVariants.{Done, InitRefused}
-use Rattle.uart_spec.specs.Bits.{has_any}
-use Rattle.uart_chip.specs.Chip.{is_dlab_set}
-use Rattle.uart_chip.specs.Machine.{MachineState, MachineStep, at_access}
-use Rattle.uart_chip.specs.Sound.{IsSound}
-use Rattle.uart_calls.specs.Meaning.{init_answer}
-use Rattle.uart_run.specs.Run.{State, machine_of, CallStep}
-use Rattle.uart_run.specs.Progress.{HasDivisor, IsTimely, HasRoom, left, IsUnheld}
-use Rattle.uart_run.proofs.Latches.{Kept, kept_access}
-use Rattle.uart_chip.proofs.conservation.BlockLaws.{path_as}
-use Rattle.uart_run.proofs.Pieces.{then_parts, next_stages}
-use Rattle.uart_run.proofs.progress.Nearing.{RunsWith, free_runs, free-path, free-latch}
-use Rattle.uart_run.proofs.SilentLists.{is_no_data, silent}
-use Rattle.uart_run.proofs.built.Words.{Kinds, Built, all_pass, leaves_limit}
-use Rattle.uart_run.proofs.built.Init.{checks_presence, sets_fifo, drains_receiver}
+use Rattle.uart_run.proofs.{Latches.Kept, Latches.kept_access, Pieces.then_parts, Pieces.next_stages, progress.Nearing.RunsWith}
+use Rattle.uart_run.proofs.{progress.Nearing.free_runs, progress.Nearing.free-path, progress.Nearing.free-latch, SilentLists.is_no_data}
+use Rattle.uart_run.proofs.{SilentLists.silent, built.Words.Kinds, built.Words.Built, built.Words.all_pass, built.Words.leaves_limit}
+use Rattle.uart_run.proofs.{built.Init.checks_presence, built.Init.sets_fifo, built.Init.drains_receiver, built.SettingUp.ChecksAndSets}
+use Rattle.uart_run.proofs.{progress.WaitEnds.no_stall-empty, NeverSwitched.begins_stay, SizeKept.left_ever, progress.Succeeds.few_left}
+use Rattle.uart_run.proofs.{initialising.Inits.begun}
 use Rattle.uart_run.proofs.built.SettingUp as built
-use Rattle.uart_run.proofs.built.SettingUp.{ChecksAndSets}
-use Rattle.uart_run.proofs.progress.WaitEnds.{no_stall-empty}
-use Rattle.uart_run.proofs.NeverSwitched.{begins_stay}
-use Rattle.uart_run.proofs.SizeKept.{left_ever}
-use Rattle.uart_run.proofs.progress.Succeeds.{few_left}
 use Rattle.uart_spec.specs.declared.registers.modem_control.TheConstants.MCR
-use Rattle.uart_chip.proofs.AutoFlow.{cleared_off}
-use Rattle.uart_run.proofs.initialising.Inits.{begun}
 
 -- ---- up to the wait
 

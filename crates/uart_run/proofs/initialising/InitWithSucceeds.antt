@@ -1,54 +1,27 @@
 -- Where ticks come before each access, the spin limit is long enough and the wire has room, neither an `init_with` nor a
 -- `set_frame_when_idle` stalls.
-use Rattle.std.proofs.Common.{◌≡◌, ◌≢◌, ℕ, ◌<◌, Bool, true, false, inl, inr, List, [], ◌∷◌, ◌++◌, Result, Ok, Err, refl, ◌&&◌}
-use Rattle.std.proofs.Common.{sym, ◌∙◌, ap, subst}
-use Rattle.uart_spec.specs.declared.config.Config.{Config}
-use Rattle.uart_spec.specs.declared.errors.FrameError.{FrameError}
+use Rattle.uart_run.proofs.Names.{◌≡◌, ◌≢◌, ℕ, ◌<◌, Bool, true, false, inl, inr, List, [], ◌∷◌, ◌++◌, Result, Ok, Err, refl, ◌&&◌, sym, ◌∙◌}
+use Rattle.uart_run.proofs.Names.{ap, subst, Config, FrameError, InitError, InvalidBaudRate, DeviceNotPresent, Setup, Path, Access, Write}
+use Rattle.uart_run.proofs.Names.{Settings, Only, Then, Fields, fields, settings_of, Doing, Saving, Plain, Sets, Next, with_config}
+use Rattle.uart_run.proofs.Names.{with_fifo, unlooped, frame_bits, line_writes, SetsFifo, DrainsReceiver, ChecksIf, WaitsIf, is_first}
+use Rattle.uart_run.proofs.Names.{is_last, Looks, SetsUp, InitsWith, SetsFrameWhenIdle, inner_of, path_then, Answer, Done, InitRefused}
+use Rattle.uart_run.proofs.Names.{MachineState, MachineStep, IsSound, init_answer, frame_when_idle_answer, State, machine_of, CallStep}
+use Rattle.uart_run.proofs.Names.{HasDivisor, IsTimely, HasRoom, left, IsUnheld, StaysUnheld, flow-path, path_as, has_any, kept_mcr}
+use Rattle.uart_run.proofs.Names.{cleared_off, has_and, flow_bit, sound_path}
 use Rattle.uart_spec.specs.declared.errors.FrameError.TheVariants as frame_error
-use Rattle.uart_spec.specs.declared.errors.InitError.{InitError}
-use Rattle.uart_spec.specs.declared.errors.InitError.TheVariants.{InvalidBaudRate, DeviceNotPresent, Stalled}
+use Rattle.uart_spec.specs.declared.errors.InitError.TheVariants.{Stalled}
 use Rattle.uart_spec.specs.declared.registers.offsets.TheConstants as offsets
-use Rattle.uart_spec.specs.declared.setup.Setup.{Setup}
-use Rattle.uart_spec.specs.Access.{Path}
-use Rattle.uart_spec.specs.declared.access.Access.{Access}
-use Rattle.uart_spec.specs.declared.access.Access.TheVariants.{Write}
-use Rattle.uart_16550.specs.Grammar.{Settings, Only, Then}
-use Rattle.uart_16550.specs.Driver.{Fields, fields, settings_of, Doing, Saving, Plain, Sets, Next, with_config, with_fifo}
-use Rattle.uart_16550.specs.Frame.{unlooped}
-use Rattle.uart_16550.specs.Init.{frame_bits, line_writes, SetsFifo, DrainsReceiver}
-use Rattle.uart_16550.specs.Setup.{ChecksIf, WaitsIf, is_first, is_last, Looks, SetsUp, InitsWith, SetsFrameWhenIdle}
-use Rattle.uart_16550.specs.Tty.{inner_of}
-use Rattle.uart_16550.proofs.Paths.{path_then}
 use Rattle.uart_events.specs.declared.call.Call.TheVariants as call
-use Rattle.uart_events.specs.declared.call.Answer.{Answer}
-use Rattle.uart_events.specs.declared.call.Answer.TheVariants.{Done, InitRefused}
-use Rattle.uart_chip.specs.Machine.{MachineState, MachineStep}
-use Rattle.uart_chip.specs.Sound.{IsSound}
-use Rattle.uart_calls.specs.Meaning.{init_answer, frame_when_idle_answer}
-use Rattle.uart_run.specs.Run.{State, machine_of, CallStep}
-use Rattle.uart_run.specs.Progress.{HasDivisor, IsTimely, HasRoom, left, IsUnheld, StaysUnheld}
-use Rattle.uart_chip.proofs.lasting.Flows.{flow-path}
-use Rattle.uart_chip.proofs.conservation.BlockLaws.{path_as}
-use Rattle.uart_run.proofs.Pieces.{then_parts, next_stages}
-use Rattle.uart_run.proofs.progress.Nearing.{Runs, RunsFree, free_runs}
+use Rattle.uart_run.proofs.{Pieces.then_parts, Pieces.next_stages, progress.Nearing.Runs, progress.Nearing.RunsFree}
+use Rattle.uart_run.proofs.{progress.Nearing.free_runs, built.Words.leaves_limit, progress.WaitEnds.no_stall-empty, SizeKept.left_ever}
+use Rattle.uart_run.proofs.{progress.Succeeds.few_left, progress.Succeeds.runs, progress.Succeeds.settings_at, Latches.Kept}
+use Rattle.uart_run.proofs.{initialising.SetUp.checks_if, initialising.SetUp.placed}
 use Rattle.uart_run.proofs.built.Init as init_lists
 use Rattle.uart_run.proofs.built.SettingUp as built
-use Rattle.uart_run.proofs.built.Words.{leaves_limit}
-use Rattle.uart_run.proofs.progress.WaitEnds.{no_stall-empty}
 use Rattle.uart_run.proofs.NeverSwitched.{never_ever, unwritten, never, looks_stay, sets_up_stays}
 use Rattle.uart_spec.specs.declared.registers.offsets.TheConstants as offsets
-use Rattle.uart_run.proofs.SizeKept.{left_ever}
-use Rattle.uart_run.proofs.progress.Succeeds.{few_left, runs, settings_at}
 use Rattle.uart_run.proofs.initialising.InitSucceeds.{free-line, free-list, free-drained, free-sets, no_refusal}
 use Rattle.uart_spec.specs.declared.registers.modem_control.TheConstants.MCR
-use Rattle.uart_spec.specs.Bits.{has_any}
-use Rattle.uart_chip.specs.Masks.{kept_mcr}
-use Rattle.uart_chip.proofs.AutoFlow.{cleared_off}
-use Rattle.uart_chip.proofs.Bits.{has_and}
-use Rattle.uart_chip.proofs.McrBits.{flow_bit}
-use Rattle.uart_chip.proofs.soundness.Sounds.{sound_path}
-use Rattle.uart_run.proofs.Latches.{Kept}
-use Rattle.uart_run.proofs.initialising.SetUp.{checks_if, placed}
 
 free-set : (setup : Setup) (config : Config) (divisor : ℕ) (fifo : Bool) (f mid : Fields) (l : List Access) (m n : MachineState) →
     RunsFree m → SetsUp setup config divisor fifo f l mid → Path MachineStep m l n → RunsFree n

@@ -1,41 +1,19 @@
 -- What an `init` comes to, whatever it answers.
-use Rattle.std.proofs.Common.{◌≡◌, ℕ, Bool, true, false, ◌&&◌, List, [], ◌∷◌, Result, Ok}
-use Rattle.std.proofs.Common.{Err, refl, sym, ◌∙◌, ap, subst, bit_and, if◌then◌else◌}
-use Rattle.std.proofs.Math.Nat.{div-add-mod}
-use Rattle.uart_spec.specs.Bits.{has_any}
-use Rattle.uart_spec.specs.declared.config.Config.{Config}
-use Rattle.uart_spec.specs.declared.errors.InitError.{InitError}
-use Rattle.uart_spec.specs.declared.errors.InitError.TheVariants.{InvalidBaudRate, DeviceNotPresent, Stalled}
+use Rattle.uart_run.proofs.Names.{◌≡◌, ℕ, Bool, true, false, ◌&&◌, List, [], ◌∷◌, Result, Ok, Err, refl, sym, ◌∙◌, ap, subst, bit_and}
+use Rattle.uart_run.proofs.Names.{if◌then◌else◌, div-add-mod, has_any, Config, InitError, InvalidBaudRate, DeviceNotPresent, Path, Access}
+use Rattle.uart_run.proofs.Names.{Write, FewMisses, Asks, Fields, fields, settings_of, Saving, Sets, Next, with_config, WaitsFor}
+use Rattle.uart_run.proofs.Names.{raised_outputs, ChecksPresence, Begins, Ends, DivisorOf, Inits, inner_of, Answer, ier_bits, is_dlab_set}
+use Rattle.uart_run.proofs.Names.{is_loopback, divisor, MachineState, MachineStep, init_answer, State, machine_of, CallStep, Ready}
+use Rattle.uart_run.proofs.Names.{BurstsFit, has_fifo, is_level, IsInitialised, Initialises, IsSound, IsWired}
+use Rattle.uart_spec.specs.declared.errors.InitError.TheVariants.{Stalled}
 use Rattle.uart_spec.specs.declared.registers.line_control.TheConstants.LCR
 use Rattle.uart_spec.specs.declared.registers.offsets.TheConstants as offsets
 use Rattle.uart_spec.specs.declared.registers.line_status.TheConstants.LSR
-use Rattle.uart_spec.specs.Access.{Path}
-use Rattle.uart_spec.specs.declared.access.Access.{Access}
-use Rattle.uart_spec.specs.declared.access.Access.TheVariants.{Write}
-use Rattle.uart_16550.specs.Grammar.{FewMisses, Asks}
-use Rattle.uart_16550.specs.Driver.{Fields, fields, settings_of, Saving, Sets, Next, with_config}
-use Rattle.uart_16550.specs.Transmit.{WaitsFor}
-use Rattle.uart_16550.specs.Init.{raised_outputs, ChecksPresence, Begins, Ends, DivisorOf, Inits}
-use Rattle.uart_16550.specs.Tty.{inner_of}
 use Rattle.uart_events.specs.declared.call.Call.TheVariants as call
-use Rattle.uart_events.specs.declared.call.Answer.{Answer}
-use Rattle.uart_chip.specs.Masks.{ier_bits}
-use Rattle.uart_chip.specs.Chip.{is_dlab_set, is_loopback, divisor}
-use Rattle.uart_chip.specs.Machine.{MachineState, MachineStep}
-use Rattle.uart_calls.specs.Meaning.{init_answer}
-use Rattle.uart_run.specs.Run.{State, machine_of, CallStep}
-use Rattle.uart_run.specs.Ready.{Ready, BurstsFit, has_fifo, is_level, IsInitialised, Initialises}
-use Rattle.uart_chip.specs.Sound.{IsSound}
-use Rattle.uart_run.specs.Wired.{IsWired}
-use Rattle.uart_run.proofs.Latches.{Kept, kept_in, kept_after, kept_list}
-use Rattle.uart_run.proofs.SizeKept.{fits_kept}
-use Rattle.uart_run.proofs.Wired.{wired_path}
-use Rattle.uart_run.proofs.Pieces.{then_parts, next_stages}
-use Rattle.uart_run.proofs.initialising.Presence.{never_absent}
-use Rattle.uart_run.proofs.KeptLists.{kept_still}
-use Rattle.uart_run.proofs.built.Receive.{waits_for}
-use Rattle.uart_run.proofs.EmptyTransmitter.{IsEmpty, empty_shown}
-use Rattle.uart_run.proofs.initialising.Stored.{init_stores}
+use Rattle.uart_run.proofs.{Latches.Kept, Latches.kept_in, Latches.kept_after, Latches.kept_list, SizeKept.fits_kept, Wired.wired_path}
+use Rattle.uart_run.proofs.{Pieces.then_parts, Pieces.next_stages, initialising.Presence.never_absent, KeptLists.kept_still}
+use Rattle.uart_run.proofs.{built.Receive.waits_for, EmptyTransmitter.IsEmpty, EmptyTransmitter.empty_shown}
+use Rattle.uart_run.proofs.{initialising.Stored.init_stores}
 use Rattle.uart_run.proofs.initialising.Inits.{frame-dlab, frame-unbroken, set_up, Begun, begun, ended}
 
 -- ready by what the registers keep

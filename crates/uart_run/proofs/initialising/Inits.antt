@@ -1,37 +1,19 @@
 -- What an `init` leaves in the registers, and of the transmitter.
-use Rattle.std.proofs.Common.{◌≡◌, ℕ, ◌+◌, ◌*◌, ◌/◌, ◌%◌, ◌≤◌, ◌<◌, ◌==◌, Bool, true, false}
-use Rattle.std.proofs.Common.{◌&&◌, List, [], ◌∷◌, refl, arith, ◌∙◌, ap, if◌then◌else◌}
-use Rattle.std.proofs.lemmas.Nat.Bits.{bit_at_above}
+use Rattle.uart_run.proofs.Names.{◌≡◌, ℕ, ◌+◌, ◌*◌, ◌/◌, ◌%◌, ◌≤◌, ◌<◌, ◌==◌, Bool, true, false, ◌&&◌, List, [], ◌∷◌, refl, arith, ◌∙◌, ap}
+use Rattle.uart_run.proofs.Names.{if◌then◌else◌, bit_at_above, Config, Path, Access, Read, Write, Settings, Only, Then, ReadsRegister}
+use Rattle.uart_run.proofs.Names.{Fields, settings_of, Saving, Plain, Sets, Next, with_saved, raised_outputs, ChecksPresence, frame_bits}
+use Rattle.uart_run.proofs.Names.{line_writes, SetsFifo, DrainsReceiver, Begins, Ends, has_any, LatchesState, is_dlab_set, divisor}
+use Rattle.uart_run.proofs.Names.{MachineState, MachineStep, has_fifo, is_level, IsSound, has_bit, sound_path, path_as, IsWiredChip}
+use Rattle.uart_run.proofs.Names.{AllSendNothing}
 use Rattle.uart_spec.specs.Fields.{word_length_code, parity_code}
-use Rattle.uart_spec.specs.declared.config.Config.{Config}
 use Rattle.uart_spec.specs.declared.registers.frame.WordLength.{WordLength}
 use Rattle.uart_spec.specs.declared.registers.frame.WordLength.TheVariants.{FiveBits}
 use Rattle.uart_spec.specs.declared.registers.frame.Parity.{Parity}
 use Rattle.uart_spec.specs.declared.registers.frame.Parity.TheVariants.{Disabled}
 use Rattle.uart_spec.specs.declared.registers.offsets.TheConstants as offsets
-use Rattle.uart_spec.specs.Access.{Path}
-use Rattle.uart_spec.specs.declared.access.Access.{Access}
-use Rattle.uart_spec.specs.declared.access.Access.TheVariants.{Read, Write}
-use Rattle.uart_16550.specs.Grammar.{Settings, Only, Then, ReadsRegister}
-use Rattle.uart_16550.specs.Driver.{Fields, settings_of, Saving, Plain, Sets, Next, with_saved}
-use Rattle.uart_16550.specs.Init.{raised_outputs, ChecksPresence, frame_bits, line_writes, SetsFifo, DrainsReceiver, Begins, Ends}
-use Rattle.uart_spec.specs.Bits.{has_any}
-use Rattle.uart_chip.specs.Chip.{LatchesState, is_dlab_set, divisor}
-use Rattle.uart_chip.specs.Machine.{MachineState, MachineStep}
-use Rattle.uart_run.specs.Ready.{has_fifo, is_level}
-use Rattle.uart_chip.specs.Sound.{IsSound}
-use Rattle.uart_chip.proofs.Bits.{has_bit}
-use Rattle.uart_chip.proofs.soundness.Sounds.{sound_path}
-use Rattle.uart_chip.proofs.conservation.BlockLaws.{path_as}
-use Rattle.uart_run.proofs.Latches.{Kept, kept_in, kept_after, kept_list, kept_path, LeftBy}
-use Rattle.uart_run.specs.Wired.{IsWiredChip}
-use Rattle.uart_run.proofs.Wired.{wired_control}
-use Rattle.uart_run.proofs.Pieces.{then_parts, next_stages}
-use Rattle.uart_run.proofs.KeptLists.{kept_still}
-use Rattle.uart_run.proofs.built.Init.{drains_receiver}
-use Rattle.uart_run.proofs.initialising.FifoSteps.{sets_fifo}
-use Rattle.uart_chip.proofs.lasting.Lasting.{AllSendNothing}
-use Rattle.uart_run.proofs.EmptyTransmitter.{IsEmpty, empty_path}
+use Rattle.uart_run.proofs.{Latches.Kept, Latches.kept_in, Latches.kept_after, Latches.kept_list, Latches.kept_path, Latches.LeftBy}
+use Rattle.uart_run.proofs.{Wired.wired_control, Pieces.then_parts, Pieces.next_stages, KeptLists.kept_still, built.Init.drains_receiver}
+use Rattle.uart_run.proofs.{initialising.FifoSteps.sets_fifo, EmptyTransmitter.IsEmpty, EmptyTransmitter.empty_path}
 
 -- ---- the frame
 

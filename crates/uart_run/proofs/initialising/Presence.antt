@@ -1,16 +1,8 @@
 -- The presence check finds the chip: its scratch register keeps what is written.
-use Rattle.std.proofs.Common.{◌≡◌, ℕ, false, ◌==◌, inl, inr, List, [], ◌∷◌, ◌∙◌, arith, ap}
-use Rattle.std.proofs.lemmas.Grind.{common_steps}
+use Rattle.uart_run.proofs.Names.{◌≡◌, ℕ, false, ◌==◌, inl, inr, List, [], ◌∷◌, ◌∙◌, arith, ap, common_steps, Path, Access, Read, Write}
+use Rattle.uart_run.proofs.Names.{Settings, Only, Then, Keeps, KeepsPatterns, ChecksPresence, MachineState, MachineStep, path_as}
 use Rattle.uart_spec.specs.declared.registers.offsets.TheConstants as offsets
-use Rattle.uart_spec.specs.Access.{Path}
-use Rattle.uart_spec.specs.declared.access.Access.{Access}
-use Rattle.uart_spec.specs.declared.access.Access.TheVariants.{Read, Write}
-use Rattle.uart_16550.specs.Grammar.{Settings, Only, Then}
-use Rattle.uart_16550.specs.Init.{Keeps, KeepsPatterns, ChecksPresence}
-use Rattle.uart_chip.specs.Machine.{MachineState, MachineStep}
-use Rattle.uart_chip.proofs.conservation.BlockLaws.{path_as}
-use Rattle.uart_run.proofs.Latches.{Kept, kept_access, kept_step}
-use Rattle.uart_run.proofs.Pieces.{then_parts}
+use Rattle.uart_run.proofs.{Latches.Kept, Latches.kept_access, Latches.kept_step, Pieces.then_parts}
 
 scratch_kept : (pattern back : ℕ) (m n : MachineState) → Path MachineStep m (Write offsets.SPR pattern ∷ Read offsets.SPR back ∷ []) n →
     back ≡ pattern

@@ -1,53 +1,28 @@
 -- What an `init_with` comes to, whatever it answers.
-use Rattle.std.proofs.Common.{◌≡◌, ◌≢◌, ◌⊎◌, inl, inr, ℕ, Bool, true, false, ◌&&◌, List, [], ◌∷◌, Result, Ok, Err}
-use Rattle.std.proofs.Common.{refl, sym, ◌∙◌, ap, subst, bit_and, if◌then◌else◌}
-use Rattle.std.proofs.Math.Nat.{div-add-mod}
-use Rattle.uart_spec.specs.Bits.{has_any}
-use Rattle.uart_spec.specs.Access.{Path}
-use Rattle.uart_spec.specs.declared.access.Access.{Access}
-use Rattle.uart_spec.specs.declared.access.Access.TheVariants.{Write}
-use Rattle.uart_spec.specs.declared.config.Config.{Config}
-use Rattle.uart_spec.specs.declared.errors.InitError.{InitError}
-use Rattle.uart_spec.specs.declared.errors.InitError.TheVariants.{InvalidBaudRate, DeviceNotPresent, Stalled}
+use Rattle.uart_run.proofs.Names.{◌≡◌, ◌≢◌, ◌⊎◌, inl, inr, ℕ, Bool, true, false, ◌&&◌, List, [], ◌∷◌, Result, Ok, Err, refl, sym, ◌∙◌, ap}
+use Rattle.uart_run.proofs.Names.{subst, bit_and, if◌then◌else◌, div-add-mod, has_any, Path, Access, Write, Config, InitError}
+use Rattle.uart_run.proofs.Names.{InvalidBaudRate, DeviceNotPresent, Setup, Settings, Only, Then, Asks, Fields, fields, settings_of, Saving}
+use Rattle.uart_run.proofs.Names.{Plain, Sets, Next, with_config, with_fifo, unlooped, frame_bits, line_writes, SetsFifo, DrainsReceiver}
+use Rattle.uart_run.proofs.Names.{Ends, DivisorOf, ChecksIf, WaitsIf, is_first, is_last, Looks, SetsUp, InitsWith, WaitsFor, inner_of}
+use Rattle.uart_run.proofs.Names.{Answer, init_answer, ier_bits, kept_mcr, is_dlab_set, divisor, MachineState, MachineStep, IsSound}
+use Rattle.uart_run.proofs.Names.{sound_path, path_as, State, machine_of, CallStep, Ready, BurstsFit, has_fifo, is_level, IsSetUp, Arranges}
+use Rattle.uart_run.proofs.Names.{IsWiredChip, IsWired}
+use Rattle.uart_spec.specs.declared.errors.InitError.TheVariants.{Stalled}
 use Rattle.uart_spec.specs.declared.registers.line_control.TheConstants.LCR
 use Rattle.uart_spec.specs.declared.registers.line_status.TheConstants.LSR
 use Rattle.uart_spec.specs.declared.registers.offsets.TheConstants as offsets
-use Rattle.uart_spec.specs.declared.setup.Setup.{Setup}
 use Rattle.uart_spec.specs.declared.setup.TransmitterWait.{TransmitterWait}
 use Rattle.uart_spec.specs.declared.setup.TransmitterWait.TheVariants.{First, Last, Never as NoWait}
-use Rattle.uart_16550.specs.Grammar.{Settings, Only, Then, Asks}
-use Rattle.uart_16550.specs.Driver.{Fields, fields, settings_of, Saving, Plain, Sets, Next, with_config, with_fifo}
-use Rattle.uart_16550.specs.Frame.{unlooped}
-use Rattle.uart_16550.specs.Init.{frame_bits, line_writes, SetsFifo, DrainsReceiver, Ends, DivisorOf}
-use Rattle.uart_16550.specs.Setup.{ChecksIf, WaitsIf, is_first, is_last, Looks, SetsUp, InitsWith}
-use Rattle.uart_16550.specs.Transmit.{WaitsFor}
-use Rattle.uart_16550.specs.Tty.{inner_of}
 use Rattle.uart_events.specs.declared.call.Call.TheVariants as call
-use Rattle.uart_events.specs.declared.call.Answer.{Answer}
-use Rattle.uart_calls.specs.Meaning.{init_answer}
-use Rattle.uart_chip.specs.Masks.{ier_bits, kept_mcr}
-use Rattle.uart_chip.specs.Chip.{is_dlab_set, divisor}
-use Rattle.uart_chip.specs.Machine.{MachineState, MachineStep}
-use Rattle.uart_chip.specs.Sound.{IsSound}
-use Rattle.uart_chip.proofs.soundness.Sounds.{sound_path}
-use Rattle.uart_chip.proofs.conservation.BlockLaws.{path_as}
-use Rattle.uart_run.specs.Run.{State, machine_of, CallStep}
-use Rattle.uart_run.specs.Ready.{Ready, BurstsFit, has_fifo, is_level, IsSetUp, Arranges}
-use Rattle.uart_run.specs.Wired.{IsWiredChip, IsWired}
-use Rattle.uart_run.proofs.Wired.{wired_path, wired_control}
-use Rattle.uart_run.proofs.SizeKept.{fits_kept}
+use Rattle.uart_run.proofs.{Wired.wired_path, Wired.wired_control, SizeKept.fits_kept, Pieces.then_parts, Pieces.next_stages}
+use Rattle.uart_run.proofs.{SilentLists.silent, EmptyTransmitter.IsEmpty, EmptyTransmitter.wait_empties, EmptyTransmitter.empty_path}
+use Rattle.uart_run.proofs.{EmptyTransmitter.empty_lined, initialising.Stored.init_with_stores, initialising.Presence.never_absent}
+use Rattle.uart_run.proofs.{initialising.FifoSteps.sets_fifo, initialising.Initialised.ready_by, initialising.Initialised.untouched}
+use Rattle.uart_run.proofs.{FrameLaws.unlooped_off}
 use Rattle.uart_run.proofs.Latches.{Kept, kept_in, kept_after, kept_after-append, kept_list, kept_path}
 use Rattle.uart_run.proofs.ListsInTurn.{HoldsInTurn, HoldsOfAll, all_only, all_then, all_few, all_misses}
-use Rattle.uart_run.proofs.Pieces.{then_parts, next_stages}
-use Rattle.uart_run.proofs.SilentLists.{silent}
 use Rattle.uart_run.proofs.built.Init as built
-use Rattle.uart_run.proofs.EmptyTransmitter.{IsEmpty, wait_empties, empty_path, empty_lined}
-use Rattle.uart_run.proofs.initialising.Stored.{init_with_stores}
-use Rattle.uart_run.proofs.initialising.Presence.{never_absent}
-use Rattle.uart_run.proofs.initialising.FifoSteps.{sets_fifo}
 use Rattle.uart_run.proofs.initialising.Inits.{frame-dlab, frame-unbroken, set_up, checked, drained, ended}
-use Rattle.uart_run.proofs.initialising.Initialised.{ready_by, untouched}
-use Rattle.uart_run.proofs.FrameLaws.{unlooped_off}
 
 -- ---- the looks
 

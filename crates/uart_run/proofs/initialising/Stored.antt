@@ -1,13 +1,6 @@
 -- An `init` and an `init_with` that are done store the configuration in the driver.
-use Rattle.std.proofs.Common.{◌≡◌, List, Ok, ◌∙◌, ap}
-use Rattle.uart_spec.specs.declared.access.Access.{Access}
-use Rattle.uart_spec.specs.declared.config.Config.{Config}
-use Rattle.uart_spec.specs.declared.setup.Setup.{Setup}
-use Rattle.uart_16550.specs.Driver.{Fields}
-use Rattle.uart_16550.specs.Init.{Inits}
-use Rattle.uart_16550.specs.Setup.{InitsWith}
-use Rattle.uart_run.proofs.built.SettingUp.{begun, ends, sets_up}
-use Rattle.uart_run.proofs.built.Words.{leaves}
+use Rattle.uart_run.proofs.Names.{◌≡◌, List, Ok, ◌∙◌, ap, Access, Config, Setup, Fields, Inits, InitsWith}
+use Rattle.uart_run.proofs.{built.SettingUp.begun, built.SettingUp.ends, built.SettingUp.sets_up, built.Words.leaves}
 
 -- what is set is stored, and what comes behind leaves it
 pub init_stores : (config : Config) (f after : Fields) (l : List Access) → Inits config (Ok (tt {0})) f l after → after.config ≡ config

@@ -1,30 +1,17 @@
 -- Blocks in loopback: what they write is what they read.
-use Rattle.std.proofs.Common.{◌≡◌, ℕ, ◌+◌, ◌≤◌, ◌<◌, true, ◌==◌, nat_lt, List, [], ◌∷◌, ◌++◌, length}
-use Rattle.std.proofs.Common.{length-append, map, refl, arith, sym, ◌∙◌, ap, subst, bit_or}
-use Rattle.std.proofs.lemmas.List.{map-append, length-map}
-use Rattle.std.proofs.lemmas.Grind.{common_steps}
+use Rattle.uart_run.proofs.Names.{◌≡◌, ℕ, ◌+◌, ◌≤◌, ◌<◌, true, ◌==◌, nat_lt, List, [], ◌∷◌, ◌++◌, length, length-append, map, refl, arith}
+use Rattle.uart_run.proofs.Names.{sym, ◌∙◌, ap, subst, bit_or, map-append, length-map, common_steps, Path, Access, Read, Write, has_any}
+use Rattle.uart_run.proofs.Names.{Sixteen, room, room_least, ChipState, word_length, cut_to, after_read, after_write, MachineState}
+use Rattle.uart_run.proofs.Names.{MachineStep, at_access, has_or, word_same, Block, Look, Hit, Other, Divisor, accesses_of, AllQuiet, IsFit}
+use Rattle.uart_run.proofs.Names.{AllFit, flat, written_in, read_in, data_written, data_read, Modes, IsIn, dlab, dlab-in, loopback}
+use Rattle.uart_run.proofs.Names.{path_split, look_data, look_room, line_in, Loops, loops-trans, loops-still, loops-refl, carries-refl}
+use Rattle.uart_run.proofs.Names.{line-length, Fits, fits-after, IsLooped, loops_effect, loops_read, loops_quiet, loops_take, loops_none}
+use Rattle.uart_run.proofs.Names.{loops_quiets, loops_sends}
 use Rattle.uart_spec.specs.declared.registers.offsets.TheConstants as offsets
 use Rattle.uart_spec.specs.declared.registers.line_status.TheConstants.LSR
 use Rattle.uart_spec.specs.declared.registers.line_control.TheConstants.LCR
-use Rattle.uart_spec.specs.Access.{Path}
-use Rattle.uart_spec.specs.declared.access.Access.{Access}
-use Rattle.uart_spec.specs.declared.access.Access.TheVariants.{Read, Write}
-use Rattle.uart_spec.specs.Bits.{has_any}
-use Rattle.uart_spec.specs.declared.setup.FifoSize.TheVariants.{Sixteen}
-use Rattle.uart_chip.specs.Transmitter.{room}
-use Rattle.uart_chip.proofs.Sizes.{room_least}
-use Rattle.uart_chip.specs.Chip.{ChipState, word_length, cut_to, after_read, after_write}
-use Rattle.uart_chip.specs.Machine.{MachineState, MachineStep, at_access}
-use Rattle.uart_chip.proofs.Bits.{has_or, word_same}
-use Rattle.uart_chip.proofs.conservation.Blocks.{Block, Look, Hit, Burst, Other, Divisor, accesses_of, AllQuiet}
-use Rattle.uart_chip.proofs.conservation.Blocks.{IsFit, AllFit, flat, written_in, read_in, data_written, data_read}
-use Rattle.uart_chip.proofs.conservation.Went.{Modes, IsIn, dlab, dlab-in, loopback}
-use Rattle.uart_chip.proofs.conservation.BlockLaws.{path_split, look_data, look_room}
+use Rattle.uart_chip.proofs.conservation.Blocks.{Burst}
 use Rattle.uart_run.proofs.CallBlocks.{InBlocks}
-use Rattle.uart_chip.proofs.loopback.Loops.{line_in, Loops, loops-trans, loops-still, loops-refl, carries-refl, line-length, Fits}
-use Rattle.uart_chip.proofs.loopback.Loops.{fits-after}
-use Rattle.uart_chip.proofs.loopback.LoopAccesses.{IsLooped, loops_effect, loops_read, loops_quiet}
-use Rattle.uart_chip.proofs.loopback.LoopAccesses.{loops_take, loops_none, loops_quiets, loops_sends}
 
 -- ---- the divisor latch
 

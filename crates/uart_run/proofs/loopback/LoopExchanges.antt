@@ -1,20 +1,10 @@
 -- What the exchange of a loopback test comes to: all comes back as it was sent, or a wait was in vain.
-use Rattle.std.proofs.Common.{◌≡◌, ◌<◌, ◌⊎◌, ℕ, min, Bool, true, false, inl, inr, List, [], ◌∷◌}
-use Rattle.std.proofs.Common.{map, nat_lt, if◌then◌else◌, Result, Ok, Err, refl, ◌∙◌, arith}
-use Rattle.std.proofs.lemmas.Grind.{common_steps}
-use Rattle.uart_spec.specs.declared.errors.ByteSendError.{ByteSendError}
-use Rattle.uart_spec.specs.declared.errors.ByteSendError.TheVariants.{NoCapacity, RemoteNotClearToSend}
-use Rattle.uart_spec.specs.declared.errors.LoopbackError.{LoopbackError}
-use Rattle.uart_spec.specs.declared.errors.LoopbackError.TheVariants.{Stalled, SendError, UnexpectedLoopbackByte, UnexpectedLoopbackMsg}
-use Rattle.uart_spec.specs.declared.setup.FifoSize.{FifoSize}
-use Rattle.uart_spec.specs.Access.{Path}
-use Rattle.uart_spec.specs.declared.access.Access.{Access}
-use Rattle.uart_16550.specs.Grammar.{Settings, Then}
-use Rattle.uart_16550.specs.Transmit.{burst_limit, Sends, TrySends}
-use Rattle.uart_16550.proofs.Languages.{some_limit}
-use Rattle.uart_16550.specs.Loopback.{test_byte, test_message, DrainsLoopback, ExchangesByte, ExchangesMessage, Exchanges}
-use Rattle.uart_chip.specs.Machine.{MachineState, MachineStep}
-use Rattle.uart_chip.proofs.conservation.Went.{Modes}
+use Rattle.uart_run.proofs.Names.{◌≡◌, ◌<◌, ◌⊎◌, ℕ, min, Bool, true, false, inl, inr, List, [], ◌∷◌, map, nat_lt, if◌then◌else◌, Result, Ok}
+use Rattle.uart_run.proofs.Names.{Err, refl, ◌∙◌, arith, common_steps, ByteSendError, NoCapacity, RemoteNotClearToSend, LoopbackError}
+use Rattle.uart_run.proofs.Names.{SendError, UnexpectedLoopbackByte, UnexpectedLoopbackMsg, FifoSize, Path, Access, Settings, Then}
+use Rattle.uart_run.proofs.Names.{burst_limit, Sends, TrySends, some_limit, test_byte, test_message, DrainsLoopback, ExchangesByte}
+use Rattle.uart_run.proofs.Names.{ExchangesMessage, Exchanges, MachineState, MachineStep, Modes}
+use Rattle.uart_spec.specs.declared.errors.LoopbackError.TheVariants.{Stalled}
 use Rattle.uart_run.proofs.Pieces.{then_parts}
 use Rattle.uart_run.proofs.loopback.LoopPhases.{IsEntered, IsReadyToTest, drained, byte_exchanged, message_exchanged, never_refused}
 

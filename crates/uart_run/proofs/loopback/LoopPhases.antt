@@ -1,44 +1,21 @@
 -- The phases of a loopback test in loopback: the drain, the byte, the message.
-use Rattle.std.proofs.Common.{◌≡◌, ℕ, ◌≤◌, Bool, true, false, ◌==◌, inl, inr, List, [], ◌∷◌, ◌++◌, length, map}
-use Rattle.std.proofs.Common.{append-nil, Option, Some, None, Ok, refl, arith, sym, ◌∙◌, ap, MatchBool}
-use Rattle.std.proofs.lemmas.List.{nil_from_length}
-use Rattle.uart_spec.specs.declared.errors.ByteSendError.{ByteSendError}
-use Rattle.uart_spec.specs.declared.errors.ByteSendError.TheVariants.{NoCapacity, RemoteNotClearToSend}
-use Rattle.uart_spec.specs.Bits.{has, has_any}
+use Rattle.uart_run.proofs.Names.{◌≡◌, ℕ, ◌≤◌, Bool, true, false, ◌==◌, inl, inr, List, [], ◌∷◌, ◌++◌, length, map, append-nil, Option}
+use Rattle.uart_run.proofs.Names.{Some, None, Ok, refl, arith, sym, ◌∙◌, ap, MatchBool, nil_from_length, ByteSendError, NoCapacity}
+use Rattle.uart_run.proofs.Names.{RemoteNotClearToSend, has, has_any, Path, Access, Read, Language, Settings, Then, InOrder, Asks, Never}
+use Rattle.uart_run.proofs.Names.{Awaited, LinesAllow, SendRefused, Round, SendsAll, test_byte, test_message, DrainsLoopback, SendsTestByte}
+use Rattle.uart_run.proofs.Names.{Echo, WholeEchoes, EachEchoes, HasEchoedAll, Character, Shifting, Sixteen, room, shift_bytes, ChipState}
+use Rattle.uart_run.proofs.Names.{MachineState, MachineStep, has_one, Modes, IsIn, dlab-in, path_as, look_room, IsLooped}
 use Rattle.uart_spec.specs.declared.registers.offsets.TheConstants as offsets
 use Rattle.uart_spec.specs.declared.registers.line_status.TheConstants.LSR
 use Rattle.uart_spec.specs.declared.registers.modem_status.TheConstants.MSR
 use Rattle.uart_spec.specs.declared.registers.modem_control.TheConstants.MCR
-use Rattle.uart_spec.specs.Access.{Path}
-use Rattle.uart_spec.specs.declared.access.Access.{Access}
-use Rattle.uart_spec.specs.declared.access.Access.TheVariants.{Read}
-use Rattle.uart_16550.specs.Grammar.{Language, Settings, Then, InOrder, Asks, Never}
-use Rattle.uart_16550.specs.Receive.{Awaited}
-use Rattle.uart_16550.specs.Transmit.{LinesAllow, SendRefused, Round, SendsAll}
-use Rattle.uart_16550.specs.Loopback.{test_byte, test_message, DrainsLoopback}
-use Rattle.uart_16550.specs.Loopback.{SendsTestByte, Echo, WholeEchoes, EachEchoes, HasEchoedAll}
-use Rattle.uart_chip.specs.declared.receiver.Character.{Character}
-use Rattle.uart_chip.specs.declared.transmitter.Shifting.{Shifting}
-use Rattle.uart_spec.specs.declared.setup.FifoSize.TheVariants.{Sixteen}
-use Rattle.uart_chip.specs.Transmitter.{room, shift_bytes}
-use Rattle.uart_chip.specs.Chip.{ChipState}
-use Rattle.uart_chip.specs.Machine.{MachineState, MachineStep}
-use Rattle.uart_chip.proofs.Bits.{has_one}
-use Rattle.uart_chip.proofs.conservation.Went.{Modes, IsIn, dlab-in}
-use Rattle.uart_run.proofs.EmptyTransmitter.{IsSent, sent_path}
-use Rattle.uart_run.proofs.SilentLists.{silent}
-use Rattle.uart_chip.proofs.conservation.BlockLaws.{path_as, look_room}
-use Rattle.uart_run.proofs.CallBlocks.{Makes, most_in, makes_then, makes_reads, awaited_blocks}
-use Rattle.uart_run.proofs.CallBlocks.{round_blocks, sends_all_blocks, try_sends_blocks}
-use Rattle.uart_run.proofs.CallKeeps.{one_fits, one_sent}
-use Rattle.uart_run.proofs.Served.{EndsDry, dry_empties}
-use Rattle.uart_run.proofs.Latches.{Kept, kept_in, kept_cut, kept_access, kept_list}
-use Rattle.uart_run.proofs.Pieces.{then_parts}
-use Rattle.uart_run.proofs.KeptLists.{kept_still}
-use Rattle.uart_run.proofs.built.Loopback.{drains_loopback}
-use Rattle.uart_run.proofs.built.Transmit.{no_room}
-use Rattle.uart_chip.proofs.loopback.LoopAccesses.{IsLooped}
-use Rattle.uart_run.proofs.loopback.LoopBlocks.{IsIdle, CameBack, comes_back}
+use Rattle.uart_run.proofs.{EmptyTransmitter.IsSent, EmptyTransmitter.sent_path, SilentLists.silent, CallBlocks.Makes, CallBlocks.most_in}
+use Rattle.uart_run.proofs.{CallBlocks.makes_then, CallBlocks.makes_reads, CallBlocks.awaited_blocks, CallBlocks.round_blocks}
+use Rattle.uart_run.proofs.{CallBlocks.sends_all_blocks, CallBlocks.try_sends_blocks, CallKeeps.one_fits, CallKeeps.one_sent}
+use Rattle.uart_run.proofs.{Served.EndsDry, Served.dry_empties, Latches.Kept, Latches.kept_in, Latches.kept_cut, Latches.kept_access}
+use Rattle.uart_run.proofs.{Latches.kept_list, Pieces.then_parts, KeptLists.kept_still, built.Loopback.drains_loopback}
+use Rattle.uart_run.proofs.{built.Transmit.no_room, loopback.LoopBlocks.IsIdle, loopback.LoopBlocks.CameBack}
+use Rattle.uart_run.proofs.{loopback.LoopBlocks.comes_back}
 
 -- ---- an idle chip
 

@@ -1,53 +1,27 @@
 -- Where ticks come before each access, the spin limit is long enough and the wire has room, a loopback test does not stall.
-use Rattle.std.proofs.Common.{◌≡◌, ℕ, ◌<◌, Bool, true, false, ◌⊎◌, inl, inr, List, [], ◌∷◌, ◌++◌, length, append_assoc, ◌&&◌}
-use Rattle.std.proofs.Common.{drop, min, None, Result, Ok, Err, refl, arith, sym, ◌∙◌, ap, subst, MatchBool}
-use Rattle.uart_spec.specs.declared.errors.LoopbackError.{LoopbackError}
+use Rattle.uart_run.proofs.Names.{◌≡◌, ℕ, ◌<◌, Bool, true, false, ◌⊎◌, inl, inr, List, [], ◌∷◌, ◌++◌, length, append_assoc, ◌&&◌, drop, min}
+use Rattle.uart_run.proofs.Names.{None, Result, Ok, Err, refl, arith, sym, ◌∙◌, ap, subst, MatchBool, LoopbackError, Path, Access, Read}
+use Rattle.uart_run.proofs.Names.{Settings, Only, Then, InOrder, AllMisses, Miss, Awaited, SendMiss, burst_size, Round, IsCut, SendsAll}
+use Rattle.uart_run.proofs.Names.{WaitsFor, Fields, Saving, Next, fields, settings_of, test_byte, test_message, DrainsLoopback}
+use Rattle.uart_run.proofs.Names.{SendsTestByte, ExchangesByte, Echo, EchoFails, WholeFails, EachFails, HasEchoedAll, ExchangesMessage}
+use Rattle.uart_run.proofs.Names.{Exchanges, Enters, Leaves, BeginsTest, Tests, TestsLoopback, inner_of, Answer, LoopbackRefused}
+use Rattle.uart_run.proofs.Names.{characters, room, out, MachineState, MachineStep, IsSound, loopback_answer, State, machine_of, CallStep}
+use Rattle.uart_run.proofs.Names.{Ready, is_narrow, test_answer, cut_of, IsTimely, HasRoom, IsUnheld, IsPlain, at_least_16, Modes, path_as}
+use Rattle.uart_run.proofs.Names.{has_any}
 use Rattle.uart_spec.specs.declared.errors.LoopbackError.TheVariants.{Stalled}
 use Rattle.uart_spec.specs.declared.registers.offsets.TheConstants as offsets
 use Rattle.uart_spec.specs.declared.registers.line_status.TheConstants.LSR
-use Rattle.uart_spec.specs.Access.{Path}
-use Rattle.uart_spec.specs.declared.access.Access.{Access}
-use Rattle.uart_spec.specs.declared.access.Access.TheVariants.{Read}
-use Rattle.uart_16550.specs.Grammar.{Settings, Only, Then, InOrder, AllMisses}
-use Rattle.uart_16550.specs.Receive.{Miss, Awaited}
-use Rattle.uart_16550.specs.Transmit.{SendMiss, burst_size, Round, IsCut, SendsAll, WaitsFor}
-use Rattle.uart_16550.specs.Driver.{Fields, Saving, Next, fields, settings_of}
-use Rattle.uart_16550.specs.Loopback.{test_byte, test_message, DrainsLoopback, SendsTestByte, ExchangesByte}
-use Rattle.uart_16550.specs.Loopback.{Echo, EchoFails, WholeFails, EachFails, HasEchoedAll, ExchangesMessage}
-use Rattle.uart_16550.specs.Loopback.{Exchanges, Enters, Leaves, BeginsTest, Tests, TestsLoopback}
-use Rattle.uart_16550.specs.Tty.{inner_of}
 use Rattle.uart_events.specs.declared.call.Call.TheVariants as call
-use Rattle.uart_events.specs.declared.call.Answer.{Answer}
-use Rattle.uart_events.specs.declared.call.Answer.TheVariants.{LoopbackRefused}
-use Rattle.uart_spec.specs.FifoSize.{characters}
-use Rattle.uart_chip.specs.Transmitter.{room, out}
-use Rattle.uart_chip.specs.Machine.{MachineState, MachineStep}
-use Rattle.uart_chip.specs.Sound.{IsSound}
-use Rattle.uart_calls.specs.Meaning.{loopback_answer}
-use Rattle.uart_run.specs.Run.{State, machine_of, CallStep}
-use Rattle.uart_run.specs.Ready.{Ready, is_narrow, test_answer}
-use Rattle.uart_chip.specs.Chip.{cut_of}
-use Rattle.uart_run.specs.Progress.{IsTimely, HasRoom, IsUnheld}
-use Rattle.uart_run.specs.Sizes.{IsPlain}
-use Rattle.uart_chip.proofs.Sizes.{at_least_16}
-use Rattle.uart_chip.proofs.conservation.Went.{Modes}
-use Rattle.uart_chip.proofs.conservation.BlockLaws.{path_as}
 use Rattle.uart_run.proofs.CallBlocks.{Makes, makes_then, makes_reads, awaited_blocks, round_blocks, sends_all_blocks, try_sends_blocks}
-use Rattle.uart_run.proofs.CallKeeps.{one_fits, one_sent}
-use Rattle.uart_run.proofs.Pieces.{then_parts, next_stages}
+use Rattle.uart_run.proofs.{CallKeeps.one_fits, CallKeeps.one_sent, Pieces.then_parts, Pieces.next_stages, progress.Nearing.RunsFree}
+use Rattle.uart_run.proofs.{progress.Nearing.free_runs, progress.Nearing.free-path, progress.WaitEnds.no_stall-empty}
+use Rattle.uart_run.proofs.{NeverSwitched.unwritten, NeverSwitched.does_never, SizeKept.left_ever, SizeKept.left_plain, SizeKept.left_fixed}
+use Rattle.uart_run.proofs.{built.Words.leaves_limit, progress.Succeeds.few_left, Latches.Kept, Latches.kept_list}
 use Rattle.uart_run.proofs.loopback.LoopPhases.{IsEntered, IsReadyToTest, drained, each_exchanged, byte_exchanged}
 use Rattle.uart_run.proofs.loopback.LoopWaits.{Lives, lives-path, never_dry, never_full, never_flooded}
 use Rattle.uart_run.proofs.loopback.LoopTests.{tested, IsBegun, begun, looped_modes, in_loopback}
-use Rattle.uart_run.proofs.progress.Nearing.{RunsFree, free_runs, free-path}
-use Rattle.uart_run.proofs.progress.WaitEnds.{no_stall-empty}
-use Rattle.uart_run.proofs.NeverSwitched.{unwritten, does_never}
-use Rattle.uart_run.proofs.SizeKept.{left_ever, left_plain, left_fixed}
-use Rattle.uart_run.proofs.built.Words.{leaves_limit}
 use Rattle.uart_run.proofs.built.Loopback.{enters_at, begins_test, drains_loopback, exchanges_byte, echoes}
-use Rattle.uart_run.proofs.progress.Succeeds.{few_left}
 use Rattle.uart_spec.specs.declared.registers.modem_control.TheConstants.MCR
-use Rattle.uart_spec.specs.Bits.{has_any}
-use Rattle.uart_run.proofs.Latches.{Kept, kept_list}
 
 -- ---- the byte
 

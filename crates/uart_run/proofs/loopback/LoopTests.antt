@@ -1,49 +1,25 @@
 -- A loopback test that begins in a ready state: it is done or stalls, and where it is done all that was to go out
 -- is on the wire, and nothing else.
-use Rattle.std.proofs.Common.{◌≡◌, ◌+◌, ◌<◌, ◌≤◌, ◌&&◌, nat_lt, ℕ, zero, suc, bit_and, arith, sym, Bool, true}
-use Rattle.std.proofs.Common.{false, inl, inr, List, [], ◌∷◌, append-nil, Option, Result, Ok, Err, refl, ◌∙◌, ap, subst}
-use Rattle.uart_spec.specs.declared.errors.LoopbackError.{LoopbackError}
+use Rattle.uart_run.proofs.Names.{◌≡◌, ◌+◌, ◌<◌, ◌≤◌, ◌&&◌, nat_lt, ℕ, zero, suc, bit_and, arith, sym, Bool, true, false, inl, inr, List}
+use Rattle.uart_run.proofs.Names.{[], ◌∷◌, append-nil, Option, Result, Ok, Err, refl, ◌∙◌, ap, subst, LoopbackError, and_le_r, mod-eq_of_lt}
+use Rattle.uart_run.proofs.Names.{FifoTriggerLevel, Path, Access, Read, Settings, Only, WaitsFor, Fields, Saving, Next, fields, settings_of}
+use Rattle.uart_run.proofs.Names.{Exchanges, EntersAt, Enters, Leaves, BeginsTest, Tests, IsStalled, TestsLoopback, inner_of, Answer}
+use Rattle.uart_run.proofs.Names.{LoopbackRefused, has_any, out, ChipState, cut_to, cut_of, is_dlab_set, MachineState, MachineStep, IsSound}
+use Rattle.uart_run.proofs.Names.{loopback_answer, State, machine_of, CallStep, IsFlushed, Ready, is_narrow, test_answer, IsTested, IsPlain}
+use Rattle.uart_run.proofs.Names.{Modes, IsIn, IsOpen, Stands}
 use Rattle.uart_spec.specs.declared.errors.LoopbackError.TheVariants.{Stalled}
-use Rattle.std.proofs.lemmas.Nat.{and_le_r}
-use Rattle.std.proofs.Math.Nat.{mod-eq_of_lt}
-use Rattle.uart_spec.specs.declared.registers.fifo_trigger_level.FifoTriggerLevel.{FifoTriggerLevel}
 use Rattle.uart_spec.specs.declared.registers.offsets.TheConstants as offsets
 use Rattle.uart_spec.specs.declared.registers.line_status.TheConstants.LSR
 use Rattle.uart_spec.specs.declared.registers.modem_control.TheConstants.MCR
 use Rattle.uart_spec.specs.declared.registers.line_control.TheConstants.LCR
-use Rattle.uart_spec.specs.Access.{Path}
-use Rattle.uart_spec.specs.declared.access.Access.{Access}
-use Rattle.uart_spec.specs.declared.access.Access.TheVariants.{Read}
-use Rattle.uart_16550.specs.Grammar.{Settings, Only}
-use Rattle.uart_16550.specs.Transmit.{WaitsFor}
-use Rattle.uart_16550.specs.Driver.{Fields, Saving, Next, fields, settings_of}
-use Rattle.uart_16550.specs.Loopback.{Exchanges, EntersAt, Enters, Leaves, BeginsTest, Tests, IsStalled, TestsLoopback}
-use Rattle.uart_16550.specs.Tty.{inner_of}
 use Rattle.uart_events.specs.declared.call.Call.TheVariants as call
-use Rattle.uart_events.specs.declared.call.Answer.{Answer}
-use Rattle.uart_events.specs.declared.call.Answer.TheVariants.{LoopbackRefused}
-use Rattle.uart_spec.specs.Bits.{has_any}
-use Rattle.uart_chip.specs.Transmitter.{out}
-use Rattle.uart_chip.specs.Chip.{ChipState, cut_to, cut_of, is_dlab_set}
-use Rattle.uart_chip.specs.Machine.{MachineState, MachineStep}
-use Rattle.uart_chip.specs.Sound.{IsSound}
-use Rattle.uart_calls.specs.Meaning.{loopback_answer}
-use Rattle.uart_run.specs.Run.{State, machine_of, CallStep}
-use Rattle.uart_run.specs.Served.{IsFlushed}
-use Rattle.uart_run.specs.Ready.{Ready, is_narrow, test_answer, IsTested}
-use Rattle.uart_run.specs.Sizes.{IsPlain}
-use Rattle.uart_chip.proofs.conservation.Went.{Modes, IsIn}
 use Rattle.uart_run.proofs.EmptyTransmitter.{IsSent, sent_shown, shown_sent, wait_empties, sent_path}
-use Rattle.uart_run.proofs.SilentLists.{does_silently}
-use Rattle.uart_run.proofs.built.Loopback.{enters_at, leaves}
-use Rattle.uart_chip.proofs.conservation.BlockLaws.{IsOpen, Stands}
+use Rattle.uart_run.proofs.{SilentLists.does_silently, built.Loopback.enters_at, built.Loopback.leaves, CallKeeps.quiet_blocks}
+use Rattle.uart_run.proofs.{Latches.Kept, Latches.kept_cut, Pieces.then_parts, Pieces.next_stages, loopback.TestedReady.entered}
+use Rattle.uart_run.proofs.{loopback.LoopPhases.idle_sent, loopback.LoopPhases.IsEntered, loopback.LoopPhases.IsReadyToTest}
+use Rattle.uart_run.proofs.{loopback.LoopExchanges.Cuts, loopback.LoopExchanges.LeadsTo, loopback.LoopExchanges.leads_on}
+use Rattle.uart_run.proofs.{loopback.LoopExchanges.exchange_leads}
 use Rattle.uart_run.proofs.CallBlocks.{Makes, most_in, makes_then, passed_silently, waits_blocks}
-use Rattle.uart_run.proofs.CallKeeps.{quiet_blocks}
-use Rattle.uart_run.proofs.Latches.{Kept, kept_cut}
-use Rattle.uart_run.proofs.Pieces.{then_parts, next_stages}
-use Rattle.uart_run.proofs.loopback.TestedReady.{entered}
-use Rattle.uart_run.proofs.loopback.LoopPhases.{idle_sent, IsEntered, IsReadyToTest}
-use Rattle.uart_run.proofs.loopback.LoopExchanges.{Cuts, LeadsTo, leads_on, exchange_leads}
 
 -- ---- before the loopback: the transmitter is awaited
 

@@ -1,46 +1,19 @@
 -- In loopback no wait of a test is in vain, where ticks come before each access and the spin limit is long enough.
-use Rattle.std.proofs.Common.{◌≡◌, ℕ, zero, suc, ◌+◌, ◌*◌, ◌≤◌, ◌<◌, true, false, List, [], ◌∷◌}
-use Rattle.std.proofs.Common.{◌++◌, length, append-nil, map, Option, None, refl, arith, ◌∙◌, ap}
-use Rattle.std.proofs.lemmas.Bool.{lt-ltb}
-use Rattle.std.proofs.lemmas.List.{length-map}
-use Rattle.uart_spec.specs.Bits.{has, has_any}
+use Rattle.uart_run.proofs.Names.{◌≡◌, ℕ, zero, suc, ◌+◌, ◌*◌, ◌≤◌, ◌<◌, true, false, List, [], ◌∷◌, ◌++◌, length, append-nil, map, Option}
+use Rattle.uart_run.proofs.Names.{None, refl, arith, ◌∙◌, ap, lt-ltb, length-map, has, has_any, Path, Access, Read, Language, Settings}
+use Rattle.uart_run.proofs.Names.{Then, Times, AllMisses, Miss, SendMiss, TakesOne, DrainsLoopback, Shifting, Character, characters}
+use Rattle.uart_run.proofs.Names.{Sixteen, room, out, shift_bytes, room_least, room_within, ChipState, is_auto_flow, MachineState}
+use Rattle.uart_run.proofs.Names.{MachineStep, IsSound, IsTicked, left, most_held, has_one, sound_path, same_pace, Modes, loopback-in, IsIn}
+use Rattle.uart_run.proofs.Names.{look_data, line_in, Fits, fits-after, line-length, IsLooped, loops_read, cleared_off}
 use Rattle.uart_spec.specs.declared.registers.offsets.TheConstants as offsets
 use Rattle.uart_spec.specs.declared.registers.line_status.TheConstants.LSR
-use Rattle.uart_spec.specs.Access.{Path}
-use Rattle.uart_spec.specs.declared.access.Access.{Access}
-use Rattle.uart_spec.specs.declared.access.Access.TheVariants.{Read}
-use Rattle.uart_16550.specs.Grammar.{Language, Settings, Then, Times, AllMisses}
-use Rattle.uart_16550.specs.Receive.{Miss}
-use Rattle.uart_16550.specs.Transmit.{SendMiss}
-use Rattle.uart_16550.specs.Loopback.{TakesOne, DrainsLoopback}
-use Rattle.uart_chip.specs.declared.transmitter.Shifting.{Shifting}
-use Rattle.uart_chip.specs.declared.receiver.Character.{Character}
-use Rattle.uart_spec.specs.FifoSize.{characters}
-use Rattle.uart_spec.specs.declared.setup.FifoSize.TheVariants.{Sixteen}
-use Rattle.uart_chip.specs.Transmitter.{room, out, shift_bytes}
-use Rattle.uart_chip.proofs.Sizes.{room_least, room_within}
-use Rattle.uart_chip.specs.Chip.{ChipState, is_auto_flow}
-use Rattle.uart_chip.specs.Machine.{MachineState, MachineStep}
-use Rattle.uart_chip.specs.Sound.{IsSound}
-use Rattle.uart_run.specs.Progress.{IsTicked, left, most_held}
-use Rattle.uart_chip.proofs.Bits.{has_one}
-use Rattle.uart_chip.proofs.soundness.Sounds.{sound_path}
-use Rattle.uart_run.proofs.progress.Left.{exceeds, left-most}
-use Rattle.uart_run.proofs.progress.Nearing.{Runs, ticked-path}
-use Rattle.uart_chip.proofs.lasting.Constants.{same_pace}
-use Rattle.uart_chip.proofs.conservation.Went.{Modes, loopback-in, IsIn}
-use Rattle.uart_chip.proofs.conservation.BlockLaws.{look_data}
-use Rattle.uart_run.proofs.EmptyTransmitter.{IsSent, sent_shown}
+use Rattle.uart_run.proofs.{progress.Left.exceeds, progress.Left.left-most, progress.Nearing.Runs, progress.Nearing.ticked-path}
+use Rattle.uart_run.proofs.{EmptyTransmitter.IsSent, EmptyTransmitter.sent_shown, SizeKept.LeavesSwitch, SizeKept.size_left}
+use Rattle.uart_run.proofs.{SizeKept.left_blocks, Pieces.then_parts, loopback.LoopBlocks.loops_in_blocks, loopback.LoopPhases.IsEntered}
+use Rattle.uart_run.proofs.{loopback.LoopPhases.IsReadyToTest, loopback.LoopPhases.never_refused, progress.WaitEnds.Awaited}
+use Rattle.uart_run.proofs.{progress.WaitEnds.no_stall, progress.WaitEnds.all_empty}
 use Rattle.uart_run.proofs.CallBlocks.{InBlocks, Makes, most_in, blocks_none, blocks_then, hit_blocks}
-use Rattle.uart_run.proofs.SizeKept.{LeavesSwitch, size_left, left_blocks}
-use Rattle.uart_run.proofs.Pieces.{then_parts}
-use Rattle.uart_chip.proofs.loopback.Loops.{line_in, Fits, fits-after, line-length}
-use Rattle.uart_chip.proofs.loopback.LoopAccesses.{IsLooped, loops_read}
-use Rattle.uart_run.proofs.loopback.LoopBlocks.{loops_in_blocks}
-use Rattle.uart_run.proofs.loopback.LoopPhases.{IsEntered, IsReadyToTest, never_refused}
-use Rattle.uart_run.proofs.progress.WaitEnds.{Awaited, no_stall, all_empty}
 use Rattle.uart_spec.specs.declared.registers.modem_control.TheConstants.MCR
-use Rattle.uart_chip.proofs.AutoFlow.{cleared_off}
 
 -- a sound machine to which ticks come, and a limit that exceeds the ticks that its transmitter may take
 pub record Lives (limit : ℕ) (m : MachineState) : Type 0 where

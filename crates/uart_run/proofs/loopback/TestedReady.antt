@@ -1,40 +1,17 @@
 -- A loopback test leaves a ready state ready, whatever it answers.
-use Rattle.std.proofs.Common.{◌≡◌, ◌&&◌, ℕ, Bool, true, false, inl, inr, List, [], ◌∷◌, Result, Option, refl, sym, ◌∙◌, ap, bit_and}
-use Rattle.std.proofs.Common.{if◌then◌else◌}
-use Rattle.bitflags.specs.Sets.{without}
-use Rattle.uart_spec.specs.declared.errors.LoopbackError.{LoopbackError}
-use Rattle.uart_spec.specs.declared.registers.fifo_trigger_level.FifoTriggerLevel.{FifoTriggerLevel}
+use Rattle.uart_run.proofs.Names.{◌≡◌, ◌&&◌, ℕ, Bool, true, false, inl, inr, List, [], ◌∷◌, Result, Option, refl, sym, ◌∙◌, ap, bit_and}
+use Rattle.uart_run.proofs.Names.{if◌then◌else◌, without, LoopbackError, FifoTriggerLevel, Path, Access, Read, Write, Settings, Only, Then}
+use Rattle.uart_run.proofs.Names.{Fields, fields, settings_of, Saving, Sets, Next, with_fifo, WaitsFor, SetsFifo, Exchanges, EntersAt}
+use Rattle.uart_run.proofs.Names.{Enters, Leaves, BeginsTest, Tests, TestsLoopback, inner_of, Answer, has_any, ier_bits, kept_mcr}
+use Rattle.uart_run.proofs.Names.{is_dlab_set, MachineState, MachineStep, State, machine_of, CallStep, BurstsFit, Ready, has_fifo, is_level}
+use Rattle.uart_run.proofs.Names.{IsSound, kept_bit, sound_path, path_as}
 use Rattle.uart_spec.specs.declared.registers.offsets.TheConstants as offsets
 use Rattle.uart_spec.specs.declared.registers.line_status.TheConstants.LSR
 use Rattle.uart_spec.specs.declared.registers.modem_control.TheConstants.MCR
-use Rattle.uart_spec.specs.Access.{Path}
-use Rattle.uart_spec.specs.declared.access.Access.{Access}
-use Rattle.uart_spec.specs.declared.access.Access.TheVariants.{Read, Write}
-use Rattle.uart_16550.specs.Grammar.{Settings, Only, Then}
-use Rattle.uart_16550.specs.Driver.{Fields, fields, settings_of, Saving, Sets, Next, with_fifo}
-use Rattle.uart_16550.specs.Transmit.{WaitsFor}
-use Rattle.uart_16550.specs.Init.{SetsFifo}
-use Rattle.uart_16550.specs.Loopback.{Exchanges, EntersAt, Enters, Leaves, BeginsTest, Tests, TestsLoopback}
-use Rattle.uart_16550.specs.Tty.{inner_of}
 use Rattle.uart_events.specs.declared.call.Call.TheVariants as call
-use Rattle.uart_events.specs.declared.call.Answer.{Answer}
-use Rattle.uart_spec.specs.Bits.{has_any}
-use Rattle.uart_chip.specs.Masks.{ier_bits, kept_mcr}
-use Rattle.uart_chip.specs.Chip.{is_dlab_set}
-use Rattle.uart_chip.specs.Machine.{MachineState, MachineStep}
-use Rattle.uart_run.specs.Run.{State, machine_of, CallStep}
-use Rattle.uart_run.specs.Ready.{BurstsFit, Ready, has_fifo, is_level}
-use Rattle.uart_chip.specs.Sound.{IsSound}
-use Rattle.uart_chip.proofs.McrBits.{kept_bit}
-use Rattle.uart_chip.proofs.soundness.Sounds.{sound_path}
-use Rattle.uart_chip.proofs.conservation.BlockLaws.{path_as}
-use Rattle.uart_run.proofs.SizeKept.{fits_kept}
+use Rattle.uart_run.proofs.{SizeKept.fits_kept, Pieces.then_parts, Pieces.next_stages, KeptLists.kept_still, built.Loopback.begins_test}
+use Rattle.uart_run.proofs.{built.Loopback.exchanges, initialising.FifoSteps.sets_fifo, initialising.Initialised.ready_by}
 use Rattle.uart_run.proofs.Latches.{Kept, kept_in, keep_write, kept_after, kept_list, kept_access, LeftBy}
-use Rattle.uart_run.proofs.Pieces.{then_parts, next_stages}
-use Rattle.uart_run.proofs.KeptLists.{kept_still}
-use Rattle.uart_run.proofs.built.Loopback.{begins_test, exchanges}
-use Rattle.uart_run.proofs.initialising.FifoSteps.{sets_fifo}
-use Rattle.uart_run.proofs.initialising.Initialised.{ready_by}
 
 -- ---- the first wait
 

@@ -1,15 +1,9 @@
 -- With room on the wire, or in loopback, each tick brings the transmitter nearer to its end.
-use Rattle.std.proofs.Common.{◌≡◌, ℕ, suc, ◌+◌, ◌-◌, ◌*◌, ◌≤◌, ◌<◌, Bool, true, false, nat_lt, List, [], ◌∷◌}
-use Rattle.std.proofs.Common.{◌++◌, length, length-append, Option, Some, None, refl, arith, sym, ◌∙◌, ap, subst}
-use Rattle.std.proofs.Math.Nat.{mul-suc, mul_comm, suc-mul}
-use Rattle.std.proofs.lemmas.Grind.{common_steps}
-use Rattle.uart_spec.specs.FifoSize.{characters}
-use Rattle.uart_chip.specs.declared.transmitter.Shifting.{Shifting}
-use Rattle.uart_chip.specs.Transmitter.{TransmitterState, shift, refill, tick, out}
-use Rattle.uart_chip.specs.Chip.{ChipState}
-use Rattle.uart_chip.specs.Sound.{IsTicking, IsSoundTransmitter, IsSoundChip}
-use Rattle.uart_chip.proofs.Sizes.{room_within}
-use Rattle.uart_run.specs.Progress.{left_of, left, most_held}
+use Rattle.uart_run.proofs.Names.{◌≡◌, ℕ, suc, ◌+◌, ◌-◌, ◌*◌, ◌≤◌, ◌<◌, Bool, true, false, nat_lt, List, [], ◌∷◌, ◌++◌, length}
+use Rattle.uart_run.proofs.Names.{length-append, Option, Some, None, refl, arith, sym, ◌∙◌, ap, subst, mul-suc, mul_comm, suc-mul}
+use Rattle.uart_run.proofs.Names.{common_steps, characters, Shifting, TransmitterState, shift, refill, out, ChipState, IsTicking}
+use Rattle.uart_run.proofs.Names.{IsSoundTransmitter, IsSoundChip, room_within, left_of, left, most_held}
+use Rattle.uart_chip.specs.Transmitter.{tick}
 
 -- from t to u the end came nearer by at least so many ticks, and nothing was added to what is to go out
 pub record Nearer (least : ℕ) (t u : TransmitterState) : Type 0 where

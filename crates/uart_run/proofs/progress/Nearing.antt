@@ -1,27 +1,15 @@
 -- Where ticks come before each access and the wire has room, each access that sends nothing brings the transmitter nearer to its end.
-use Rattle.std.proofs.Common.{Bool, false, sym, ap, subst, ◌∙◌, ◌&&◌, ◌≡◌, ℕ, zero, suc, ◌+◌, ◌-◌, ◌≤◌, true, refl, List}
-use Rattle.std.proofs.Common.{[], ◌∷◌, ◌++◌, length, length-append, Option, Some, None, arith}
+use Rattle.uart_run.proofs.Names.{Bool, false, sym, ap, subst, ◌∙◌, ◌&&◌, ◌≡◌, ℕ, zero, suc, ◌+◌, ◌-◌, ◌≤◌, true, refl, List, [], ◌∷◌, ◌++◌}
+use Rattle.uart_run.proofs.Names.{length, length-append, Option, Some, None, arith, Path, Access, Read, Write, Event, Ticks, Gate, Mark}
+use Rattle.uart_run.proofs.Names.{Shifting, TransmitterState, out, shift_bytes, has_any, FifoSize, ChipState, is_dlab_set, is_loopback}
+use Rattle.uart_run.proofs.Names.{is_auto_flow, tick, ticks, after_read, after_write, MachineState, MachineStep, perform, before_access}
+use Rattle.uart_run.proofs.Names.{after_access, at_access, IsSoundChip, IsSound, TickedAfter, IsTicked, left_of, HasRoom, IsUnheld}
+use Rattle.uart_run.proofs.Names.{off_goes_on, steady_ticks, sound_perform, sound_step, latches-ticks, LastsInAccesses, Lasts, SendsNothing}
+use Rattle.uart_run.proofs.Names.{AllSendNothing, lasts-read, lasts-write, lasts-latch, lasts-before, lasts-path}
 use Rattle.uart_spec.specs.declared.registers.offsets.TheConstants as offsets
-use Rattle.uart_spec.specs.Access.{Path}
-use Rattle.uart_spec.specs.declared.access.Access.{Access}
-use Rattle.uart_spec.specs.declared.access.Access.TheVariants.{Read, Write}
-use Rattle.uart_events.specs.declared.event.Event.{Event}
-use Rattle.uart_events.specs.declared.event.Event.TheVariants.{Ticks, Access as Gate, Mark}
-use Rattle.uart_chip.specs.declared.transmitter.Shifting.{Shifting}
-use Rattle.uart_chip.specs.Transmitter.{TransmitterState, out, shift_bytes}
-use Rattle.uart_spec.specs.Bits.{has_any}
 use Rattle.uart_spec.specs.declared.registers.modem_control.TheConstants.MCR
 use Rattle.uart_chip.specs.Transmitter as transmitter
-use Rattle.uart_spec.specs.declared.setup.FifoSize.{FifoSize}
-use Rattle.uart_chip.specs.Chip.{ChipState, is_dlab_set, is_loopback, is_auto_flow, tick, ticks, after_read, after_write}
-use Rattle.uart_chip.specs.Machine.{MachineState, MachineStep, perform, before_access, after_access, at_access}
-use Rattle.uart_chip.specs.Sound.{IsSoundChip, IsSound}
-use Rattle.uart_run.specs.Progress.{TickedAfter, IsTicked, left_of, HasRoom, IsUnheld}
-use Rattle.uart_chip.proofs.AutoFlow.{off_goes_on}
-use Rattle.uart_chip.proofs.soundness.Sounds.{steady_ticks, sound_perform, sound_step, latches-ticks}
 use Rattle.uart_run.proofs.Latches.{Kept, kept_step}
-use Rattle.uart_chip.proofs.lasting.Lasting.{LastsInAccesses, Lasts, SendsNothing, AllSendNothing, lasts-read, lasts-write, lasts-latch}
-use Rattle.uart_chip.proofs.lasting.Lasting.{lasts-before, lasts-path}
 use Rattle.uart_run.proofs.progress.Left.{Nearer, nearer-refl, nearer-trans, nearer-less, nearer-tick, NoLonger, no_longer-tick}
 
 -- the wire takes all that is to go out

@@ -1,41 +1,17 @@
 -- Where ticks come before each access, the spin limit is long enough and the wire has room, calls do not stall.
-use Rattle.std.proofs.Common.{◌≡◌, ◌*◌, ◌&&◌, ℕ, ◌+◌, ◌≤◌, ◌<◌, Bool, List, [], ◌++◌, length, map, length-append}
-use Rattle.std.proofs.Common.{take, Result, Ok, Err, inr, refl, arith, sym, ◌∙◌, ap}
-use Rattle.std.proofs.lemmas.List.{length-map, length-take}
-use Rattle.std.specs.List.{concat}
-use Rattle.uart_spec.specs.declared.errors.StalledError.{StalledError}
-use Rattle.uart_spec.specs.Access.{Path}
-use Rattle.uart_spec.specs.declared.access.Access.{Access}
-use Rattle.uart_16550.specs.Grammar.{Language, Settings, Then, InOrder, AllMisses}
-use Rattle.uart_16550.specs.Driver.{fields, settings_of}
-use Rattle.uart_16550.specs.Transmit.{SendMiss, Round, SendsExact}
-use Rattle.uart_16550.specs.Expansion.{expansion, SendsEach, SendsText}
-use Rattle.uart_16550.specs.Io.{Writes, Flushes}
-use Rattle.uart_16550.specs.Tty.{inner_of}
-use Rattle.uart_events.specs.declared.call.Answer.{Answer}
-use Rattle.uart_events.specs.declared.call.Answer.TheVariants.{Done, Count}
-use Rattle.uart_chip.specs.Machine.{MachineState, MachineStep}
-use Rattle.uart_chip.specs.Sound.{IsSound}
+use Rattle.uart_run.proofs.Names.{◌≡◌, ◌*◌, ◌&&◌, ℕ, ◌+◌, ◌≤◌, ◌<◌, Bool, List, [], ◌++◌, length, map, length-append, take, Result, Ok, Err}
+use Rattle.uart_run.proofs.Names.{inr, refl, arith, sym, ◌∙◌, ap, length-map, length-take, concat, StalledError, Path, Access, Language}
+use Rattle.uart_run.proofs.Names.{Settings, Then, InOrder, AllMisses, fields, settings_of, SendMiss, Round, SendsExact, expansion}
+use Rattle.uart_run.proofs.Names.{SendsEach, SendsText, Writes, Flushes, inner_of, Answer, Done, Count, MachineState, MachineStep, IsSound}
+use Rattle.uart_run.proofs.Names.{exact_answer, count_answer, State, machine_of, Ready, IsTimely, IsUnchecked, IsUnheld, left, most_held}
+use Rattle.uart_run.proofs.Names.{HasRoom, has_any, Modes, IsIn, sound_path, same_pace, flow-path, PassedBlocks, path_split, path_as}
 use Rattle.uart_chip.specs.Conserved.{out}
-use Rattle.uart_calls.specs.Meaning.{exact_answer, count_answer}
-use Rattle.uart_run.specs.Run.{State, machine_of}
-use Rattle.uart_run.specs.Ready.{Ready}
-use Rattle.uart_run.specs.Progress.{IsTimely, IsUnchecked, IsUnheld, left, most_held, HasRoom}
-use Rattle.uart_spec.specs.Bits.{has_any}
 use Rattle.uart_spec.specs.declared.registers.modem_control.TheConstants.MCR
-use Rattle.uart_chip.proofs.conservation.Went.{Modes, IsIn}
-use Rattle.uart_chip.proofs.soundness.Sounds.{sound_path}
-use Rattle.uart_run.proofs.progress.Left.{exceeds, left-most}
-use Rattle.uart_run.proofs.progress.Nearing.{Runs, ticked-path}
-use Rattle.uart_chip.proofs.lasting.Constants.{same_pace}
-use Rattle.uart_chip.proofs.lasting.Flows.{flow-path}
-use Rattle.uart_run.proofs.SizeKept.{LeavesSwitch, size_left, left_blocks}
-use Rattle.uart_chip.proofs.conservation.BlockLaws.{PassedBlocks, path_split, path_as}
+use Rattle.uart_run.proofs.{progress.Left.exceeds, progress.Left.left-most, progress.Nearing.Runs, progress.Nearing.ticked-path}
+use Rattle.uart_run.proofs.{SizeKept.LeavesSwitch, SizeKept.size_left, SizeKept.left_blocks, CallKeeps.sends_each_blocks}
+use Rattle.uart_run.proofs.{CallLaws.InSession, CallLaws.session_room, SessionCalls.modes_of, SessionCalls.modes_mcr}
+use Rattle.uart_run.proofs.{SessionCalls.in_session, progress.WaitEnds.no_stall-empty, progress.WaitEnds.no_stall-room}
 use Rattle.uart_run.proofs.CallBlocks.{Makes, most_in, passed_in_blocks, pieces_blocks, cut_whole}
-use Rattle.uart_run.proofs.CallKeeps.{sends_each_blocks}
-use Rattle.uart_run.proofs.CallLaws.{InSession, session_room}
-use Rattle.uart_run.proofs.SessionCalls.{modes_of, modes_mcr, in_session}
-use Rattle.uart_run.proofs.progress.WaitEnds.{no_stall-empty, no_stall-room}
 
 -- the call's own settings
 abbrev pub settings_at : State → Settings

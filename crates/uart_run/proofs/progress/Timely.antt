@@ -1,22 +1,9 @@
 -- What the law of progress asks for stays true from call to call: ticks come, the limit is long enough, and the chip has automatic flow
 -- control or has it not.
-use Rattle.std.proofs.Common.{◌≡◌, ℕ, ◌+◌, Bool, List, [], ◌∷◌, refl, ◌∙◌}
-use Rattle.uart_events.specs.declared.call.Call.{Call}
-use Rattle.uart_events.specs.declared.call.Answer.{Answer}
-use Rattle.uart_events.specs.declared.event.Event.{Event}
-use Rattle.uart_events.specs.declared.event.Event.TheVariants.{Ticks, Access as Gate, Mark}
-use Rattle.uart_16550.specs.Driver.{fields}
-use Rattle.uart_16550.specs.Tty.{inner_of}
-use Rattle.uart_chip.specs.Machine.{MachineState, after_mark}
-use Rattle.uart_chip.proofs.lasting.Constants.{same_pace, same_pace-mark}
-use Rattle.uart_chip.proofs.lasting.Flows.{flow-path, flow-mark}
-use Rattle.uart_run.specs.Run.{State, machine_of, CallStep}
-use Rattle.uart_run.specs.Served.{transmitter_of}
-use Rattle.uart_run.specs.Ready.{KeepsSize}
-use Rattle.uart_run.specs.Progress.{TickedAfter, IsTicked, IsTimely}
-use Rattle.uart_run.proofs.SizeKept.{limit_kept, sizes_kept}
-use Rattle.uart_run.proofs.Sessions.{Lasts, lasts_call}
-use Rattle.uart_run.proofs.progress.Nearing.{ticked-path}
+use Rattle.uart_run.proofs.Names.{◌≡◌, ℕ, ◌+◌, Bool, List, [], ◌∷◌, refl, ◌∙◌, Call, Answer, Event, Ticks, Gate, Mark, fields, inner_of}
+use Rattle.uart_run.proofs.Names.{MachineState, after_mark, same_pace, same_pace-mark, flow-path, flow-mark, State, machine_of, CallStep}
+use Rattle.uart_run.proofs.Names.{transmitter_of, KeepsSize, TickedAfter, IsTicked, IsTimely}
+use Rattle.uart_run.proofs.{SizeKept.limit_kept, SizeKept.sizes_kept, Sessions.Lasts, Sessions.lasts_call, progress.Nearing.ticked-path}
 
 -- the events up to a mark
 ticked-mark : (passed : ℕ) (events : List Event) → TickedAfter passed events → TickedAfter 0 (after_mark events)

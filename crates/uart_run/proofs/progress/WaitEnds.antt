@@ -1,26 +1,12 @@
 -- A wait that is long enough ends: each look brings the transmitter nearer to its end, and then the look shows what is awaited.
-use Rattle.std.proofs.Common.{◌≡◌, ℕ, zero, suc, ◌*◌, ◌≤◌, ◌<◌, true, false, ◌==◌, List, []}
-use Rattle.std.proofs.Common.{◌∷◌, ◌++◌, length, Option, Some, None, refl, arith, ◌∙◌, ap}
-use Rattle.std.proofs.lemmas.Grind.{common_steps}
-use Rattle.uart_spec.specs.Bits.{has}
+use Rattle.uart_run.proofs.Names.{◌≡◌, ℕ, zero, suc, ◌*◌, ◌≤◌, ◌<◌, true, false, ◌==◌, List, [], ◌∷◌, ◌++◌, length, Option, Some, None}
+use Rattle.uart_run.proofs.Names.{refl, arith, ◌∙◌, ap, common_steps, has, Path, Access, Read, Settings, Times, Asks, SendMiss, NoCapacity}
+use Rattle.uart_run.proofs.Names.{RemoteNotClearToSend, Shifting, is_transmitter_empty, MachineState, MachineStep, left_of, left, IsTicking}
+use Rattle.uart_run.proofs.Names.{has_one, path_split, path_as, look_room}
 use Rattle.uart_spec.specs.declared.registers.offsets.TheConstants as offsets
 use Rattle.uart_spec.specs.declared.registers.line_status.TheConstants.LSR
-use Rattle.uart_spec.specs.Access.{Path}
-use Rattle.uart_spec.specs.declared.access.Access.{Access}
-use Rattle.uart_spec.specs.declared.access.Access.TheVariants.{Read}
-use Rattle.uart_16550.specs.Grammar.{Settings, Times, Asks}
-use Rattle.uart_16550.specs.Transmit.{SendMiss}
-use Rattle.uart_spec.specs.declared.errors.ByteSendError.TheVariants.{NoCapacity, RemoteNotClearToSend}
-use Rattle.uart_chip.specs.declared.transmitter.Shifting.{Shifting}
-use Rattle.uart_chip.specs.Chip.{is_transmitter_empty}
-use Rattle.uart_chip.specs.Machine.{MachineState, MachineStep}
-use Rattle.uart_run.specs.Progress.{left_of, left}
-use Rattle.uart_chip.specs.Sound.{IsTicking}
-use Rattle.uart_chip.proofs.Bits.{has_one}
-use Rattle.uart_run.proofs.progress.Left.{Nearer}
-use Rattle.uart_run.proofs.progress.Nearing.{Runs, runs-look, nearer-step}
-use Rattle.uart_chip.proofs.conservation.BlockLaws.{path_split, path_as, look_room}
-use Rattle.uart_run.proofs.EmptyTransmitter.{look_empty}
+use Rattle.uart_run.proofs.{progress.Left.Nearer, progress.Nearing.Runs, progress.Nearing.runs-look, progress.Nearing.nearer-step}
+use Rattle.uart_run.proofs.{EmptyTransmitter.look_empty}
 
 -- what holds while it is awaited, and that then a look shows the bits once the transmitter is empty
 pub record Awaited (I : MachineState → Type 0) (bits : ℕ) : Type 0 where

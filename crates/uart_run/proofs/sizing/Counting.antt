@@ -1,31 +1,14 @@
 -- What comes back of a flood is counted: as many as the receiver holds, and that tells the size of its FIFO.
-use Rattle.std.proofs.Common.{◌≡◌, ℕ, ◌+◌, ◌==◌, inl, inr, List, [], ◌++◌, length, Result, Ok, Err}
-use Rattle.std.proofs.Common.{append-nil, false, refl, arith, sym, ◌∙◌, ap, subst, if◌then◌else◌}
-use Rattle.uart_spec.specs.FifoSize.{characters}
-use Rattle.uart_spec.specs.declared.setup.FifoSize.{FifoSize}
-use Rattle.uart_spec.specs.declared.setup.FifoSize.TheVariants.{Sixteen, ThirtyTwo, SixtyFour, OneHundredTwentyEight}
-use Rattle.uart_spec.specs.declared.setup.FifoSize.TheVariants.{TwoHundredFiftySix}
-use Rattle.uart_spec.specs.declared.errors.FifoSizeError.{FifoSizeError}
-use Rattle.uart_spec.specs.declared.errors.FifoSizeError.TheVariants.{FifosOff, TooFew, Stalled}
+use Rattle.uart_run.proofs.Names.{◌≡◌, ℕ, ◌+◌, ◌==◌, inl, inr, List, [], ◌++◌, length, Result, Ok, Err, append-nil, false, refl, arith, sym}
+use Rattle.uart_run.proofs.Names.{◌∙◌, ap, subst, if◌then◌else◌, characters, FifoSize, Sixteen, ThirtyTwo, SixtyFour, OneHundredTwentyEight}
+use Rattle.uart_run.proofs.Names.{TwoHundredFiftySix, FifoSizeError, FifosOff, TooFew, Stalled, Path, Access, Settings, flood, TakesBack}
+use Rattle.uart_run.proofs.Names.{Tells, room, MachineState, MachineStep, at_least_16, at_most_256, room_within, Modes, line_in}
+use Rattle.uart_run.proofs.Names.{line-length, IsLooped}
 use Rattle.uart_spec.specs.declared.registers.line_status.TheConstants.LSR
-use Rattle.uart_spec.specs.Access.{Path}
-use Rattle.uart_spec.specs.declared.access.Access.{Access}
-use Rattle.uart_16550.specs.Grammar.{Settings}
-use Rattle.uart_16550.specs.Sizing.{flood, TakesBack, Tells}
-use Rattle.uart_chip.specs.Transmitter.{room}
-use Rattle.uart_chip.specs.Machine.{MachineState, MachineStep}
-use Rattle.uart_chip.proofs.Sizes.{at_least_16, at_most_256, room_within}
-use Rattle.uart_chip.proofs.conservation.Went.{Modes}
-use Rattle.uart_chip.proofs.loopback.Loops.{line_in, line-length}
-use Rattle.uart_chip.proofs.loopback.LoopAccesses.{IsLooped}
-use Rattle.uart_run.proofs.CallBlocks.{InBlocks, most_in, blocks_then, makes_look}
-use Rattle.uart_run.proofs.EmptyTransmitter.{sent_path}
-use Rattle.uart_run.proofs.Served.{EndsDry, dry_empties}
-use Rattle.uart_run.proofs.SilentLists.{silent}
-use Rattle.uart_run.proofs.built.Sizing.{takes_back}
-use Rattle.uart_run.proofs.loopback.LoopBlocks.{loops_in_blocks}
-use Rattle.uart_run.proofs.loopback.LoopWaits.{all_waits, takes_blocks}
-use Rattle.uart_run.proofs.sizing.Flooding.{IsFull}
+use Rattle.uart_run.proofs.{CallBlocks.InBlocks, CallBlocks.most_in, CallBlocks.blocks_then, CallBlocks.makes_look}
+use Rattle.uart_run.proofs.{EmptyTransmitter.sent_path, Served.EndsDry, Served.dry_empties, SilentLists.silent, built.Sizing.takes_back}
+use Rattle.uart_run.proofs.{loopback.LoopBlocks.loops_in_blocks, loopback.LoopWaits.all_waits, loopback.LoopWaits.takes_blocks}
+use Rattle.uart_run.proofs.{sizing.Flooding.IsFull}
 
 -- ---- the count
 

@@ -1,83 +1,38 @@
 -- An `enable_64_byte_fifos` in a ready state: a chip that has the switch of a 16750 has FIFOs of 64 after it, and any other chip is as it
 -- was.
-use Rattle.std.proofs.Common.{◌≡◌, ◌≢◌, ◌&&◌, ◌+◌, ℕ, Bool, true, false, not, inr, List, [], ◌∷◌, ◌++◌, append-nil, Result, Ok, Err}
-use Rattle.std.proofs.Common.{unwrap_or}
-use Rattle.std.proofs.Common.{arith, refl, sym, ◌∙◌, ap, subst, bit_and, bit_or, if◌then◌else◌}
-use Rattle.std.proofs.lemmas.Bool.{false≢true}
-use Rattle.std.proofs.lemmas.Grind.{common_steps}
-use Rattle.std.proofs.lemmas.Nat.{and_assoc}
-use Rattle.bitflags.specs.Sets.{without}
-use Rattle.uart_spec.specs.Bits.{has, has_any}
-use Rattle.uart_spec.specs.declared.setup.FifoSize.{FifoSize}
-use Rattle.uart_spec.specs.declared.setup.FifoSize.TheVariants.{Sixteen, SixtyFour}
-use Rattle.uart_spec.specs.declared.errors.FifoSizeError.{FifoSizeError}
-use Rattle.uart_spec.specs.declared.errors.FifoSizeError.TheVariants.{FifosOff, TooFew, Stalled}
+use Rattle.uart_run.proofs.Names.{◌≡◌, ◌≢◌, ◌&&◌, ◌+◌, ℕ, Bool, true, false, not, inr, List, [], ◌∷◌, ◌++◌, append-nil, Result, Ok, Err}
+use Rattle.uart_run.proofs.Names.{unwrap_or, arith, refl, sym, ◌∙◌, ap, subst, bit_and, bit_or, if◌then◌else◌, false≢true, common_steps}
+use Rattle.uart_run.proofs.Names.{and_assoc, without, has, has_any, FifoSize, Sixteen, SixtyFour, FifoSizeError, FifosOff, TooFew, Stalled}
+use Rattle.uart_run.proofs.Names.{FifoTriggerLevel, One, Path, Access, Read, Write, Settings, Only, Fields, fields, settings_of, level_bits}
+use Rattle.uart_run.proofs.Names.{BeginsEnabling, opened, enabling_writes, Enabling, Enables64, WaitsFor, inner_of, Chip, Uart16550A}
+use Rattle.uart_run.proofs.Names.{ier_bits, ChipState, word_length, is_dlab_set, interrupt, is_64, is_same, after_write, trigger_level}
+use Rattle.uart_run.proofs.Names.{switch_size, is_switching, switch, set_fifo, set_trigger, control, with_size, empty_queues, switched_size}
+use Rattle.uart_run.proofs.Names.{reset_receiver, reset_transmitter, clear, MachineState, MachineStep, at_access, IsSound, IsSoundChip}
+use Rattle.uart_run.proofs.Names.{has_one, has_or, word_same, size_shown, same_size-access, switch-step, chip_lasts-before, sound_access}
+use Rattle.uart_run.proofs.Names.{sound_path, sound_write, IsLevel, sends-refl, receives-still, reports-same, changed-refl, Modes, IsIn}
+use Rattle.uart_run.proofs.Names.{Went, loopback, marked-in, Passed, passed-trans, passed-effect, IsOpen, Stands, PassedBlocks}
+use Rattle.uart_run.proofs.Names.{nothing_taken, path_as, passed_quiet, passed_level, stands-after, passed_blocks-trans, received_kept}
+use Rattle.uart_run.proofs.Names.{State, machine_of, IsTimely, HasRoom, IsUnheld, Ready, transmitter_of, size_in, LosesNone, IsEnabled}
+use Rattle.uart_run.proofs.Names.{IsStillAsBefore, EnablesOff}
 use Rattle.uart_spec.specs.declared.registers.fifo_control.TheConstants.FCR
-use Rattle.uart_spec.specs.declared.registers.fifo_trigger_level.FifoTriggerLevel.{FifoTriggerLevel}
-use Rattle.uart_spec.specs.declared.registers.fifo_trigger_level.FifoTriggerLevel.TheVariants.{One}
 use Rattle.uart_spec.specs.declared.registers.interrupt_status.TheConstants.ISR
 use Rattle.uart_spec.specs.declared.registers.line_control.TheConstants.LCR
 use Rattle.uart_spec.specs.declared.registers.line_status.TheConstants.LSR
 use Rattle.uart_spec.specs.declared.registers.modem_control.TheConstants.MCR
 use Rattle.uart_spec.specs.declared.registers.offsets.TheConstants as offsets
-use Rattle.uart_spec.specs.Access.{Path}
-use Rattle.uart_spec.specs.declared.access.Access.{Access}
-use Rattle.uart_spec.specs.declared.access.Access.TheVariants.{Read, Write}
-use Rattle.uart_16550.specs.Grammar.{Settings, Only}
-use Rattle.uart_16550.specs.Driver.{Fields, fields, settings_of}
-use Rattle.uart_16550.specs.Setup.{level_bits}
-use Rattle.uart_16550.specs.Sizing.{BeginsEnabling, opened, enabling_writes, Enabling, Enables64}
-use Rattle.uart_16550.specs.Transmit.{WaitsFor}
-use Rattle.uart_16550.specs.Tty.{inner_of}
-use Rattle.uart_events.specs.declared.event.Chip.{Chip}
-use Rattle.uart_events.specs.declared.event.Chip.TheVariants.{Uart16550A}
-use Rattle.uart_chip.specs.Masks.{ier_bits}
 use Rattle.uart_chip.specs.Transmitter as transmitter
-use Rattle.uart_chip.specs.Chip.{ChipState, word_length, is_dlab_set, interrupt, is_64, is_same, after_write, trigger_level, switch_size}
-use Rattle.uart_chip.specs.Chip.{is_switching, switch, set_fifo, set_trigger, control, with_size, empty_queues, switched_size}
-use Rattle.uart_chip.specs.Chip.{reset_receiver, reset_transmitter}
-use Rattle.uart_chip.specs.Receiver.{clear}
 use Rattle.uart_chip.specs.Conserved.{out}
-use Rattle.uart_chip.specs.Machine.{MachineState, MachineStep, at_access}
-use Rattle.uart_chip.specs.Sound.{IsSound, IsSoundChip}
-use Rattle.uart_chip.proofs.Bits.{has_one, has_or, word_same}
-use Rattle.uart_chip.proofs.FifoBits.{size_shown}
 use Rattle.uart_chip.proofs.Switching.{lacking-keeps}
-use Rattle.uart_chip.proofs.lasting.FifoSizes.{same_size-access, switch-step}
-use Rattle.uart_chip.proofs.lasting.Lasting.{chip_lasts-before}
-use Rattle.uart_chip.proofs.soundness.Sounds.{sound_access, sound_path, sound_write}
-use Rattle.uart_chip.proofs.conservation.Effects.{IsLevel}
-use Rattle.uart_chip.proofs.conservation.Sends.{sends-refl}
-use Rattle.uart_chip.proofs.conservation.Receives.{receives-still}
-use Rattle.uart_chip.proofs.statuses.Reports.{reports-same}
-use Rattle.uart_chip.proofs.statuses.LinesChanged.{changed-refl}
-use Rattle.uart_chip.proofs.conservation.Went.{Modes, IsIn, Went, loopback, marked-in}
-use Rattle.uart_chip.proofs.conservation.Passed.{Passed, passed-trans, passed-effect}
-use Rattle.uart_chip.proofs.conservation.BlockLaws.{IsOpen, Stands, PassedBlocks, nothing_taken, path_as, passed_quiet, passed_level}
-use Rattle.uart_chip.proofs.conservation.BlockLaws.{stands-after, passed_blocks-trans}
-use Rattle.uart_chip.proofs.conservation.SessionLaws.{received_kept}
-use Rattle.uart_run.specs.Run.{State, machine_of}
-use Rattle.uart_run.specs.Progress.{IsTimely, HasRoom, IsUnheld}
-use Rattle.uart_run.specs.Ready.{Ready}
-use Rattle.uart_run.specs.Served.{transmitter_of}
-use Rattle.uart_run.specs.Sizes.{size_in, LosesNone, IsEnabled, IsStillAsBefore, Enables, EnablesOff}
-use Rattle.uart_run.proofs.EmptyTransmitter.{sent_path, sent_shown, shown_sent, wait_empties}
+use Rattle.uart_run.specs.Sizes.{Enables}
+use Rattle.uart_run.proofs.{EmptyTransmitter.sent_path, EmptyTransmitter.sent_shown, EmptyTransmitter.shown_sent}
+use Rattle.uart_run.proofs.{EmptyTransmitter.wait_empties, Pieces.then_parts, KeptLists.kept_still, built.Sizing.begins_enabling}
+use Rattle.uart_run.proofs.{NeverSwitched.unwritten, SizeKept.size_left, SizeKept.left_ever, SizeKept.left_plain, SizeKept.fits_by}
+use Rattle.uart_run.proofs.{CallKeeps.quiet_blocks, CallLaws.InSession, CallLaws.level_bits_keep, CheckLists.passed_lcr}
+use Rattle.uart_run.proofs.{SessionCalls.modes_of, SessionCalls.modes_cut, SessionCalls.in_session, progress.Nearing.RunsFree}
+use Rattle.uart_run.proofs.{progress.Nearing.free_runs, progress.Nearing.free-path, progress.Succeeds.few_left}
+use Rattle.uart_run.proofs.{progress.WaitEnds.no_stall-empty, initialising.FifoShown.shows_64, initialising.Initialised.ready_by}
 use Rattle.uart_run.proofs.Latches.{Kept, kept_in, keep, keep_control, kept_after, kept_access, kept_step, kept_path, kept_list}
-use Rattle.uart_run.proofs.Pieces.{then_parts}
-use Rattle.uart_run.proofs.KeptLists.{kept_still}
-use Rattle.uart_run.proofs.built.Sizing.{begins_enabling}
-use Rattle.uart_run.proofs.NeverSwitched.{unwritten}
-use Rattle.uart_run.proofs.SizeKept.{size_left, left_ever, left_plain, fits_by}
 use Rattle.uart_run.proofs.CallBlocks.{Makes, most_in, makes_then, passed_silently, waits_blocks}
-use Rattle.uart_run.proofs.CallKeeps.{quiet_blocks}
-use Rattle.uart_run.proofs.CallLaws.{InSession, level_bits_keep}
-use Rattle.uart_run.proofs.CheckLists.{passed_lcr}
-use Rattle.uart_run.proofs.SessionCalls.{modes_of, modes_cut, in_session}
-use Rattle.uart_run.proofs.progress.Nearing.{RunsFree, free_runs, free-path}
-use Rattle.uart_run.proofs.progress.Succeeds.{few_left}
-use Rattle.uart_run.proofs.progress.WaitEnds.{no_stall-empty}
-use Rattle.uart_run.proofs.initialising.FifoShown.{shows_64}
-use Rattle.uart_run.proofs.initialising.Initialised.{ready_by}
 
 -- ---- FIFOs of 64 are asked for
 

@@ -1,16 +1,10 @@
 -- In loopback a transmitter that is flooded fills the receiver: a character is lost only where one of the two is full.
-use Rattle.std.proofs.Common.{◌≡◌, ◌⊎◌, ℕ, suc, ◌+◌, ◌≤◌, Bool, true, false, inl, inr, nat_lt, List, [], ◌∷◌, ◌++◌, length}
-use Rattle.std.proofs.Common.{length-append, Option, Some, None, refl, arith, sym, ◌∙◌, ap}
-use Rattle.std.proofs.lemmas.Grind.{common_steps}
-use Rattle.std.specs.List.{AllByRecursion}
-use Rattle.uart_chip.specs.declared.receiver.Character.{Character}
-use Rattle.uart_chip.specs.declared.receiver.Origin.TheVariants.{Looped}
-use Rattle.uart_chip.specs.declared.transmitter.Shifting.{Shifting}
+use Rattle.uart_run.proofs.Names.{◌≡◌, ◌⊎◌, ℕ, suc, ◌+◌, ◌≤◌, Bool, true, false, inl, inr, nat_lt, List, [], ◌∷◌, ◌++◌, length}
+use Rattle.uart_run.proofs.Names.{length-append, Option, Some, None, refl, arith, sym, ◌∙◌, ap, common_steps, AllByRecursion, Character}
+use Rattle.uart_run.proofs.Names.{Looped, Shifting, TransmitterState, shift, looped_byte, refill, load, room, shift_bytes, ReceiverState}
+use Rattle.uart_run.proofs.Names.{enter, come_back, each-append}
 use Rattle.uart_chip.specs.Transmitter as transmitter
-use Rattle.uart_chip.specs.Transmitter.{TransmitterState, shift, looped_byte, refill, load, room, shift_bytes}
 use Rattle.uart_chip.specs.Receiver as receiver
-use Rattle.uart_chip.specs.Receiver.{ReceiverState, enter, come_back}
-use Rattle.uart_chip.proofs.Lists.{each-append}
 
 -- each of these bytes is this one
 abbrev pub AllAre : ℕ → List ℕ → Type 0

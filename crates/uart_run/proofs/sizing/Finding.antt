@@ -1,55 +1,22 @@
 -- A `find_fifo_size` over a chip that has FIFOs: it finds the size or stalls, and puts everything back.
-use Rattle.std.proofs.Common.{◌≡◌, ◌⊎◌, ◌&&◌, ℕ, Bool, true, false, inl, inr, List, [], ◌∷◌, ◌++◌, append-nil, Ok, Err, Some}
-use Rattle.std.proofs.Common.{◌≢◌, ◌≤◌, ◌==◌, arith, refl, sym, ◌∙◌, ap, subst}
-use Rattle.std.proofs.lemmas.Grind.{common_steps}
-use Rattle.uart_spec.specs.declared.setup.FifoSize.{FifoSize}
-use Rattle.uart_spec.specs.declared.errors.FifoSizeError.TheVariants.{Stalled}
-use Rattle.uart_spec.specs.declared.registers.fifo_trigger_level.FifoTriggerLevel.{FifoTriggerLevel}
+use Rattle.uart_run.proofs.Names.{◌≡◌, ◌⊎◌, ◌&&◌, ℕ, Bool, true, false, inl, inr, List, [], ◌∷◌, ◌++◌, append-nil, Ok, Err, Some, ◌≢◌, ◌≤◌}
+use Rattle.uart_run.proofs.Names.{◌==◌, arith, refl, sym, ◌∙◌, ap, subst, common_steps, FifoSize, Stalled, FifoTriggerLevel, Path, Access}
+use Rattle.uart_run.proofs.Names.{Write, Settings, Only, Asks, Fields, Saving, Sets, fields, settings_of, with_fifo, fifo_bits, SetsFifo}
+use Rattle.uart_run.proofs.Names.{test_byte, Leaves, SwitchesFifo, FindsFifoSize, inner_of, Chip, Uart16550A, TransmitterState, out, room}
+use Rattle.uart_run.proofs.Names.{shift_bytes, ChipState, cut_of, MachineState, MachineStep, at_access, IsSound, Modes, path_as, IsLooped}
+use Rattle.uart_run.proofs.Names.{State, machine_of, Ready, BurstsFit, has_fifo, transmitter_of, size_in, MayFind, receiver_of, IsMeasured}
+use Rattle.uart_run.proofs.Names.{SendsAtMostOne, FindsSize, FindsOff, AllSendNothing}
 use Rattle.uart_spec.specs.declared.registers.interrupt_status.TheConstants.ISR
 use Rattle.uart_spec.specs.declared.registers.offsets.TheConstants as offsets
-use Rattle.uart_spec.specs.Access.{Path}
-use Rattle.uart_spec.specs.declared.access.Access.{Access}
-use Rattle.uart_spec.specs.declared.access.Access.TheVariants.{Write}
-use Rattle.uart_16550.specs.Grammar.{Settings, Only, Asks}
-use Rattle.uart_16550.specs.Driver.{Fields, Saving, Sets, fields, settings_of, with_fifo}
-use Rattle.uart_16550.specs.Init.{fifo_bits, SetsFifo}
-use Rattle.uart_16550.specs.Loopback.{test_byte, Leaves}
-use Rattle.uart_16550.specs.Sizing.{SwitchesFifo, FindsFifoSize}
-use Rattle.uart_16550.specs.Tty.{inner_of}
-use Rattle.uart_events.specs.declared.event.Chip.{Chip}
-use Rattle.uart_events.specs.declared.event.Chip.TheVariants.{Uart16550A}
-use Rattle.uart_chip.specs.Transmitter.{TransmitterState, out, room, shift_bytes}
-use Rattle.uart_chip.specs.Chip.{ChipState, cut_of}
-use Rattle.uart_chip.specs.Machine.{MachineState, MachineStep, at_access}
-use Rattle.uart_chip.specs.Sound.{IsSound}
-use Rattle.uart_chip.proofs.conservation.Went.{Modes}
-use Rattle.uart_chip.proofs.conservation.BlockLaws.{path_as}
-use Rattle.uart_chip.proofs.loopback.LoopAccesses.{IsLooped}
-use Rattle.uart_run.specs.Run.{State, machine_of}
-use Rattle.uart_run.specs.Ready.{Ready, BurstsFit, has_fifo}
-use Rattle.uart_run.specs.Served.{transmitter_of}
-use Rattle.uart_run.specs.Sizes.{size_in, MayFind, receiver_of, IsMeasured, SendsAtMostOne, FindsSize, FindsOff}
-use Rattle.uart_run.proofs.EmptyTransmitter.{IsSent, sent_path, shown_sent}
-use Rattle.uart_run.proofs.Latches.{Kept, kept_in, kept_access}
-use Rattle.uart_run.proofs.NeverSwitched.{does_never}
-use Rattle.uart_run.proofs.SizeKept.{leaves_size, left_fixed, fits_after}
-use Rattle.uart_run.proofs.Pieces.{then_parts, next_stages}
-use Rattle.uart_run.proofs.SilentLists.{silent, does_silently}
-use Rattle.uart_run.proofs.built.Words.{asks}
-use Rattle.uart_run.proofs.built.Init.{stepping}
-use Rattle.uart_run.proofs.built.Loopback.{leaves}
-use Rattle.uart_chip.proofs.lasting.Lasting.{AllSendNothing}
-use Rattle.uart_run.proofs.initialising.Initialised.{ready_by}
-use Rattle.uart_run.proofs.loopback.LoopTests.{looped_modes}
-use Rattle.uart_run.proofs.loopback.TestedReady.{leaving}
-use Rattle.uart_run.proofs.loopback.TestedReady.{leaves_list}
-use Rattle.uart_run.proofs.sizing.Counting.{Found, told}
-use Rattle.uart_run.proofs.sizing.Filling.{AllAre}
-use Rattle.uart_run.proofs.sizing.Flooding.{IsFlooded, flooded_access}
-use Rattle.uart_run.proofs.sizing.Walking.{level_in, StallsFirst, Measured, found_by}
-use Rattle.uart_run.proofs.sizing.Measuring.{FoundIn, TellsAll}
-use Rattle.uart_run.proofs.built.Sizing.{finds_fifo_size, switches_fifo}
-use Rattle.uart_run.proofs.sizing.Remaining.{IsReset, AllCalm, reset_at, reset_path}
+use Rattle.uart_run.proofs.{EmptyTransmitter.IsSent, EmptyTransmitter.sent_path, EmptyTransmitter.shown_sent, Latches.Kept, Latches.kept_in}
+use Rattle.uart_run.proofs.{Latches.kept_access, NeverSwitched.does_never, SizeKept.leaves_size, SizeKept.left_fixed, SizeKept.fits_after}
+use Rattle.uart_run.proofs.{Pieces.then_parts, Pieces.next_stages, SilentLists.silent, SilentLists.does_silently, built.Words.asks}
+use Rattle.uart_run.proofs.{built.Init.stepping, built.Loopback.leaves, initialising.Initialised.ready_by, loopback.LoopTests.looped_modes}
+use Rattle.uart_run.proofs.{loopback.TestedReady.leaving, loopback.TestedReady.leaves_list, sizing.Counting.Found, sizing.Counting.told}
+use Rattle.uart_run.proofs.{sizing.Filling.AllAre, sizing.Flooding.IsFlooded, sizing.Flooding.flooded_access, sizing.Walking.level_in}
+use Rattle.uart_run.proofs.{sizing.Walking.StallsFirst, sizing.Walking.Measured, sizing.Walking.found_by, sizing.Measuring.FoundIn}
+use Rattle.uart_run.proofs.{sizing.Measuring.TellsAll, built.Sizing.finds_fifo_size, built.Sizing.switches_fifo, sizing.Remaining.IsReset}
+use Rattle.uart_run.proofs.{sizing.Remaining.AllCalm, sizing.Remaining.reset_at, sizing.Remaining.reset_path}
 use Rattle.uart_run.proofs.sizing.Staying.{SendsLast, last_path, last_out, emptied, reset_written}
 
 -- ---- the FIFO step and the way out of loopback

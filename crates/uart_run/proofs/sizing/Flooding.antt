@@ -1,30 +1,15 @@
 -- The flood of `find_fifo_size` in loopback, and the wait after it: the receiver is full then.
-use Rattle.std.proofs.Common.{◌==◌, ◌≡◌, ℕ, zero, suc, ◌+◌, ◌≤◌, Bool, true, false, List, [], ◌∷◌, length, refl, arith}
-use Rattle.std.proofs.Common.{◌∙◌, ap}
-use Rattle.std.specs.List.{AllByRecursion}
-use Rattle.uart_spec.specs.Access.{Path}
-use Rattle.uart_spec.specs.declared.access.Access.{Access}
-use Rattle.uart_spec.specs.declared.access.Access.TheVariants.{Read, Write}
+use Rattle.uart_run.proofs.Names.{◌==◌, ◌≡◌, ℕ, zero, suc, ◌+◌, ◌≤◌, Bool, true, false, List, [], ◌∷◌, length, refl, arith, ◌∙◌, ap}
+use Rattle.uart_run.proofs.Names.{AllByRecursion, Path, Access, Read, Write, Settings, Only, Times, test_byte, room, load, looped_byte}
+use Rattle.uart_run.proofs.Names.{ChipState, cut_of, is_loopback, is_held_off, tick, arrive, after_write, MachineState, MachineStep}
+use Rattle.uart_run.proofs.Names.{at_access, IsSound, LastsInEvents, chip_lasts-before, Modes, IsIn, dlab-in, loopback-in, path_as}
+use Rattle.uart_run.proofs.Names.{IsLooped, eqb-true, false≢true, Language}
 use Rattle.uart_spec.specs.declared.registers.offsets.TheConstants as offsets
-use Rattle.uart_16550.specs.Grammar.{Settings, Only, Times}
-use Rattle.uart_16550.specs.Loopback.{test_byte}
 use Rattle.uart_chip.specs.Transmitter as transmitter
-use Rattle.uart_chip.specs.Transmitter.{room, load, looped_byte}
 use Rattle.uart_chip.specs.Receiver as receiver
-use Rattle.uart_chip.specs.Chip.{ChipState, cut_of, is_loopback, is_held_off, tick, arrive, after_write}
-use Rattle.uart_chip.specs.Machine.{MachineState, MachineStep, at_access}
-use Rattle.uart_chip.specs.Sound.{IsSound}
-use Rattle.uart_chip.proofs.lasting.Lasting.{LastsInEvents, chip_lasts-before}
-use Rattle.uart_chip.proofs.conservation.Went.{Modes, IsIn, dlab-in, loopback-in}
-use Rattle.uart_chip.proofs.conservation.BlockLaws.{path_as}
-use Rattle.uart_chip.proofs.loopback.LoopAccesses.{IsLooped}
-use Rattle.uart_run.proofs.EmptyTransmitter.{IsEmpty, IsSent, sent_shown}
-use Rattle.uart_run.proofs.ListsInTurn.{HoldsOfAll}
-use Rattle.uart_run.proofs.built.Words.{Kinds, Built, all_pass, each_so}
-use Rattle.std.proofs.lemmas.Bool.{eqb-true, false≢true}
-use Rattle.uart_16550.specs.Grammar.{Language}
-use Rattle.uart_run.proofs.Pieces.{then_parts}
-use Rattle.uart_run.proofs.sizing.Filling.{Fills, fills_tick, fills_load}
+use Rattle.uart_run.proofs.{EmptyTransmitter.IsEmpty, EmptyTransmitter.IsSent, EmptyTransmitter.sent_shown, ListsInTurn.HoldsOfAll}
+use Rattle.uart_run.proofs.{built.Words.Kinds, built.Words.Built, built.Words.all_pass, built.Words.each_so, Pieces.then_parts}
+use Rattle.uart_run.proofs.{sizing.Filling.Fills, sizing.Filling.fills_tick, sizing.Filling.fills_load}
 
 -- a chip in these modes, of which loopback is one, that so many more bytes fill
 pub record IsFlooded (x : Modes) (gone : List ℕ) (more : ℕ) (c : ChipState) : Type 0 where

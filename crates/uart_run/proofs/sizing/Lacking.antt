@@ -1,31 +1,13 @@
 -- A `find_fifo_size` over a chip that has no FIFOs, by a driver that takes them to be on.
-use Rattle.std.proofs.Common.{refl, ◌≡◌, ◌⊎◌, ◌&&◌, ℕ, Bool, true, false, inl, inr, List, Err, Some, sym, ◌∙◌, ap}
-use Rattle.uart_spec.specs.declared.errors.FifoSizeError.TheVariants.{TooFew, Stalled}
-use Rattle.uart_spec.specs.Access.{Path}
-use Rattle.uart_spec.specs.declared.access.Access.{Access}
-use Rattle.uart_16550.specs.Driver.{fields}
-use Rattle.uart_16550.specs.Sizing.{FindsFifoSize}
-use Rattle.uart_16550.specs.Tty.{inner_of}
-use Rattle.uart_events.specs.declared.event.Chip.{Chip}
-use Rattle.uart_events.specs.declared.event.Chip.TheVariants.{Uart16450}
-use Rattle.uart_chip.specs.Transmitter.{out, room}
-use Rattle.uart_chip.specs.Chip.{cut_of}
-use Rattle.uart_chip.specs.Machine.{MachineStep}
-use Rattle.uart_chip.specs.Sound.{IsSound}
-use Rattle.uart_run.specs.Run.{State, machine_of}
-use Rattle.uart_run.specs.Ready.{Ready, BurstsFit, latches_of, has_fifo}
-use Rattle.uart_run.specs.Served.{transmitter_of, IsFlushed}
-use Rattle.uart_run.specs.Sizes.{size_in, IsPlain, FindsNone}
-use Rattle.uart_run.proofs.EmptyTransmitter.{IsSent, sent_path, shown_sent}
-use Rattle.uart_run.proofs.Latches.{Kept, kept_in}
-use Rattle.uart_run.proofs.initialising.Initialised.{ready_by}
-use Rattle.uart_run.proofs.loopback.LoopTests.{looped_modes}
-use Rattle.uart_run.proofs.SilentLists.{does_silently}
-use Rattle.uart_run.proofs.built.Loopback.{leaves}
-use Rattle.uart_run.proofs.sizing.Counting.{Found, told_none}
-use Rattle.uart_run.proofs.built.Sizing.{switches_fifo}
-use Rattle.uart_run.proofs.sizing.Measuring.{FoundIn, TellsAll}
-use Rattle.uart_run.proofs.sizing.Walking.{level_in, StallsFirst, Measured, found_by}
+use Rattle.uart_run.proofs.Names.{refl, ◌≡◌, ◌⊎◌, ◌&&◌, ℕ, Bool, true, false, inl, inr, List, Err, Some, sym, ◌∙◌, ap, TooFew, Stalled}
+use Rattle.uart_run.proofs.Names.{Path, Access, fields, FindsFifoSize, inner_of, Chip, Uart16450, out, room, cut_of, MachineStep, IsSound}
+use Rattle.uart_run.proofs.Names.{State, machine_of, Ready, BurstsFit, latches_of, has_fifo, transmitter_of, IsFlushed, size_in, IsPlain}
+use Rattle.uart_run.proofs.Names.{FindsNone}
+use Rattle.uart_run.proofs.{EmptyTransmitter.IsSent, EmptyTransmitter.sent_path, EmptyTransmitter.shown_sent, Latches.Kept, Latches.kept_in}
+use Rattle.uart_run.proofs.{initialising.Initialised.ready_by, loopback.LoopTests.looped_modes, SilentLists.does_silently}
+use Rattle.uart_run.proofs.{built.Loopback.leaves, sizing.Counting.Found, sizing.Counting.told_none, built.Sizing.switches_fifo}
+use Rattle.uart_run.proofs.{sizing.Measuring.FoundIn, sizing.Measuring.TellsAll, sizing.Walking.level_in, sizing.Walking.StallsFirst}
+use Rattle.uart_run.proofs.{sizing.Walking.Measured, sizing.Walking.found_by}
 
 module _ (s t : State) (sound : IsSound (machine_of s)) (plain : IsPlain s) (model : (machine_of s).chip.model ≡ Uart16450) where
   abbrev gone : List ℕ

@@ -1,31 +1,14 @@
 -- The measure of `find_fifo_size` in loopback: it finds the size of the FIFO, or a wait reached the limit.
-use Rattle.std.proofs.Common.{refl, ◌≡◌, ◌⊎◌, ℕ, Bool, true, false, inl, inr, List, Err, arith, sym, ◌∙◌, ap}
-use Rattle.uart_spec.specs.declared.setup.FifoSize.{FifoSize}
-use Rattle.uart_spec.specs.declared.errors.FifoSizeError.TheVariants.{Stalled}
+use Rattle.uart_run.proofs.Names.{refl, ◌≡◌, ◌⊎◌, ℕ, Bool, true, false, inl, inr, List, Err, arith, sym, ◌∙◌, ap, FifoSize, Stalled, Path}
+use Rattle.uart_run.proofs.Names.{Access, Settings, Then, WaitsFor, DrainsLoopback, flood, Floods, TakesBack, Tells, Measures, room}
+use Rattle.uart_run.proofs.Names.{ChipState, MachineState, MachineStep, IsSoundChip, IsSound, at_most_256, room_within, sound_path, Modes}
 use Rattle.uart_spec.specs.declared.registers.line_status.TheConstants.LSR
-use Rattle.uart_spec.specs.Access.{Path}
-use Rattle.uart_spec.specs.declared.access.Access.{Access}
-use Rattle.uart_16550.specs.Grammar.{Settings, Then}
-use Rattle.uart_16550.specs.Transmit.{WaitsFor}
-use Rattle.uart_16550.specs.Loopback.{DrainsLoopback}
-use Rattle.uart_16550.specs.Sizing.{flood, Floods, TakesBack, Tells, Measures}
-use Rattle.uart_chip.specs.Transmitter.{room}
-use Rattle.uart_chip.specs.Chip.{ChipState}
-use Rattle.uart_chip.specs.Machine.{MachineState, MachineStep}
-use Rattle.uart_chip.specs.Sound.{IsSoundChip, IsSound}
-use Rattle.uart_chip.proofs.Sizes.{at_most_256, room_within}
-use Rattle.uart_chip.proofs.soundness.Sounds.{sound_path}
-use Rattle.uart_chip.proofs.conservation.Went.{Modes}
-use Rattle.uart_run.proofs.EmptyTransmitter.{IsSent, sent_path, wait_empties}
-use Rattle.uart_run.proofs.built.Receive.{waits_for}
-use Rattle.uart_run.proofs.built.Sizing.{floods, takes_back}
-use Rattle.uart_run.proofs.SizeKept.{size_left, left_plain}
-use Rattle.uart_run.proofs.built.Loopback.{drains_loopback}
-use Rattle.uart_run.proofs.Pieces.{then_parts}
-use Rattle.uart_run.proofs.SilentLists.{silent}
-use Rattle.uart_run.proofs.loopback.LoopPhases.{IsEntered, IsReadyToTest, drained, idle_sent}
+use Rattle.uart_run.proofs.{EmptyTransmitter.IsSent, EmptyTransmitter.sent_path, EmptyTransmitter.wait_empties, built.Receive.waits_for}
+use Rattle.uart_run.proofs.{built.Sizing.floods, built.Sizing.takes_back, SizeKept.size_left, SizeKept.left_plain}
+use Rattle.uart_run.proofs.{built.Loopback.drains_loopback, Pieces.then_parts, SilentLists.silent, loopback.LoopPhases.IsEntered}
+use Rattle.uart_run.proofs.{loopback.LoopPhases.IsReadyToTest, loopback.LoopPhases.drained, loopback.LoopPhases.idle_sent}
+use Rattle.uart_run.proofs.{sizing.Counting.Found, sizing.Counting.counted}
 use Rattle.uart_run.proofs.sizing.Flooding.{IsFlooded, flooded, flooded_looks, all_look, filled}
-use Rattle.uart_run.proofs.sizing.Counting.{Found, counted}
 
 -- both FIFOs of a sound chip have one size
 pub one_size : (c : ChipState) → IsSoundChip c → c.receiver.size ≡ c.transmitter.size

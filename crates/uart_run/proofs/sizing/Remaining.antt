@@ -1,35 +1,17 @@
 -- What remains after a size was found: the transmitter stays empty, so what is received is what arrives.
-use Rattle.std.proofs.Common.{◌≡◌, ◌≢◌, ℕ, ◌+◌, ◌≤◌, Bool, true, false, nat_lt, List, [], ◌∷◌, length, Option, Some, None}
-use Rattle.std.proofs.Common.{refl, arith, sym, ◌∙◌, ap, subst}
-use Rattle.std.specs.List.{AllByRecursion}
-use Rattle.uart_spec.specs.Access.{Path}
-use Rattle.uart_spec.specs.declared.access.Access.{Access}
-use Rattle.uart_spec.specs.declared.access.Access.TheVariants.{Read, Write}
+use Rattle.uart_run.proofs.Names.{◌≡◌, ◌≢◌, ℕ, ◌+◌, ◌≤◌, Bool, true, false, nat_lt, List, [], ◌∷◌, length, Option, Some, None, refl, arith}
+use Rattle.uart_run.proofs.Names.{sym, ◌∙◌, ap, subst, AllByRecursion, Path, Access, Read, Write, FifoTriggerLevel, One, has_any, fifo_bits}
+use Rattle.uart_run.proofs.Names.{Chip, Uart16550A, Character, Arrived, Shifting, looped_byte, room, ReceiverState, enter, come_back}
+use Rattle.uart_run.proofs.Names.{take_front, replace, ChipState, is_loopback, is_held_off, tick, is_same, set_fifo, control, trigger_level}
+use Rattle.uart_run.proofs.Names.{switch, is_switching, switch_size, reset_receiver, reset_transmitter, set_trigger, MachineState}
+use Rattle.uart_run.proofs.Names.{MachineStep, at_access, ReadMove, takes, acknowledges, read_move, WriteMove, sends, enables, switches}
+use Rattle.uart_run.proofs.Names.{resizes, clears, empties, triggers, write_move, write_lasts, each-append, LastsInEvents}
+use Rattle.uart_run.proofs.Names.{chip_lasts-before, IsSince, ArrivedSince}
 use Rattle.uart_spec.specs.declared.registers.fifo_control.TheConstants.FCR
-use Rattle.uart_spec.specs.declared.registers.fifo_trigger_level.FifoTriggerLevel.{FifoTriggerLevel}
-use Rattle.uart_spec.specs.declared.registers.fifo_trigger_level.FifoTriggerLevel.TheVariants.{One}
 use Rattle.uart_spec.specs.declared.registers.offsets.TheConstants as offsets
-use Rattle.uart_spec.specs.Bits.{has_any}
-use Rattle.uart_16550.specs.Init.{fifo_bits}
-use Rattle.uart_events.specs.declared.event.Chip.{Chip}
-use Rattle.uart_events.specs.declared.event.Chip.TheVariants.{Uart16550A}
-use Rattle.uart_chip.specs.declared.receiver.Character.{Character}
-use Rattle.uart_chip.specs.declared.receiver.Origin.TheVariants.{Arrived}
-use Rattle.uart_chip.specs.declared.transmitter.Shifting.{Shifting}
-use Rattle.uart_chip.specs.Transmitter.{looped_byte, room}
 use Rattle.uart_chip.specs.Receiver as receiver
-use Rattle.uart_chip.specs.Receiver.{ReceiverState, enter, come_back, take_front, replace}
-use Rattle.uart_chip.specs.Chip.{ChipState, is_loopback, is_held_off, tick, is_same, set_fifo, control}
-use Rattle.uart_chip.specs.Chip.{trigger_level, switch, is_switching, switch_size, reset_receiver, reset_transmitter, set_trigger}
-use Rattle.uart_chip.specs.Machine.{MachineState, MachineStep, at_access}
-use Rattle.uart_chip.proofs.AccessMoves.{ReadMove, takes, acknowledges, read_move, WriteMove, sends, enables, switches, resizes, clears}
-use Rattle.uart_chip.proofs.AccessMoves.{empties, triggers, write_move, write_lasts}
-use Rattle.uart_chip.proofs.Lists.{each-append}
-use Rattle.uart_chip.proofs.lasting.Lasting.{LastsInEvents, chip_lasts-before}
-use Rattle.uart_run.specs.Sizes.{IsSince, ArrivedSince}
-use Rattle.uart_run.proofs.EmptyTransmitter.{IsSent, sent_tick}
-use Rattle.uart_run.proofs.Latches.{Kept, kept_access}
-use Rattle.uart_run.proofs.sizing.Staying.{sets_on, resets, emptied, reset_written}
+use Rattle.uart_run.proofs.{EmptyTransmitter.IsSent, EmptyTransmitter.sent_tick, Latches.Kept, Latches.kept_access, sizing.Staying.sets_on}
+use Rattle.uart_run.proofs.{sizing.Staying.resets, sizing.Staying.emptied, sizing.Staying.reset_written}
 
 -- ---- how many have arrived
 

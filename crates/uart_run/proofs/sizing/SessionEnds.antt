@@ -1,27 +1,11 @@
 -- `find_fifo_size` and `enable_64_byte_fifos` end a session, and the next may begin behind them.
-use Rattle.std.proofs.Common.{◌≡◌, Bool, true, false, List, refl, sym, ◌∙◌, ap, Result, Ok, Err}
-use Rattle.uart_spec.specs.Access.{Path}
-use Rattle.uart_spec.specs.declared.access.Access.{Access}
-use Rattle.uart_spec.specs.declared.setup.FifoSize.{FifoSize}
-use Rattle.uart_spec.specs.declared.errors.FifoSizeError.{FifoSizeError}
-use Rattle.uart_spec.specs.declared.errors.FifoSizeError.TheVariants.{FifosOff, TooFew, Stalled}
-use Rattle.uart_16550.specs.Driver.{Fields, fields}
-use Rattle.uart_16550.specs.Sizing.{Enables64, FindsFifoSize}
-use Rattle.uart_16550.specs.Tty.{inner_of}
-use Rattle.uart_chip.specs.Machine.{MachineState, MachineStep}
-use Rattle.uart_chip.specs.Sound.{IsSound}
-use Rattle.uart_chip.proofs.lasting.Flows.{flow-path}
-use Rattle.uart_run.specs.Run.{State, machine_of}
-use Rattle.uart_run.specs.Ready.{BurstsFit, Ready, latches_of}
+use Rattle.uart_run.proofs.Names.{◌≡◌, Bool, true, false, List, refl, sym, ◌∙◌, ap, Result, Ok, Err, Path, Access, FifoSize, FifoSizeError}
+use Rattle.uart_run.proofs.Names.{FifosOff, TooFew, Stalled, Fields, fields, Enables64, FindsFifoSize, inner_of, MachineState, MachineStep}
+use Rattle.uart_run.proofs.Names.{IsSound, flow-path, State, machine_of, BurstsFit, Ready, latches_of, EndsSession}
 use Rattle.uart_run.specs.Sizes.{Enables}
-use Rattle.uart_run.specs.StandsFor.{EndsSession}
-use Rattle.uart_run.proofs.SizeKept.{leaves_size}
-use Rattle.uart_run.proofs.Wired.{wired_path}
-use Rattle.uart_run.proofs.built.Loopback.{testing}
-use Rattle.uart_run.proofs.built.Sizing.{finds_fifo_size}
-use Rattle.uart_run.proofs.built.Words.{allowed, but_checks, leaves}
-use Rattle.uart_run.proofs.sizing.Enabling.{enables, enables_off}
-use Rattle.uart_run.proofs.sizing.Finding.{finds_off, finds_size, may_find}
+use Rattle.uart_run.proofs.{SizeKept.leaves_size, Wired.wired_path, built.Loopback.testing, built.Sizing.finds_fifo_size}
+use Rattle.uart_run.proofs.{built.Words.allowed, built.Words.but_checks, built.Words.leaves, sizing.Enabling.enables}
+use Rattle.uart_run.proofs.{sizing.Enabling.enables_off, sizing.Finding.finds_off, sizing.Finding.finds_size, sizing.Finding.may_find}
 
 -- whether the driver checks CTS
 abbrev checks_of : Fields → Bool

@@ -1,22 +1,11 @@
 -- What a flood leaves in the transmitter: once the FIFOs are reset, at most the character in the shift register goes out.
-use Rattle.std.proofs.Common.{◌≡◌, ◌⊎◌, ℕ, Bool, true, false, inl, inr, nat_lt, List, [], ◌∷◌, ◌++◌, length, append-nil}
-use Rattle.std.proofs.Common.{Option, Some, None, refl, ◌∙◌}
-use Rattle.uart_spec.specs.Access.{Path}
-use Rattle.uart_spec.specs.declared.access.Access.{Access}
+use Rattle.uart_run.proofs.Names.{◌≡◌, ◌⊎◌, ℕ, Bool, true, false, inl, inr, nat_lt, List, [], ◌∷◌, ◌++◌, length, append-nil, Option, Some}
+use Rattle.uart_run.proofs.Names.{None, refl, ◌∙◌, Path, Access, FifoTriggerLevel, One, has_any, fifo_bits, Chip, Uart16550A, Shifting}
+use Rattle.uart_run.proofs.Names.{TransmitterState, shift, refill, shift_bytes, out, FifoSize, ChipState, switch, is_same, switched_size}
+use Rattle.uart_run.proofs.Names.{is_switching, switch_size, set_fifo, control, reset_receiver, reset_transmitter, MachineState}
+use Rattle.uart_run.proofs.Names.{MachineStep, Lasts, AllSendNothing, lasts-path}
 use Rattle.uart_spec.specs.declared.registers.fifo_control.TheConstants.FCR
-use Rattle.uart_spec.specs.declared.registers.fifo_trigger_level.FifoTriggerLevel.{FifoTriggerLevel}
-use Rattle.uart_spec.specs.declared.registers.fifo_trigger_level.FifoTriggerLevel.TheVariants.{One}
-use Rattle.uart_spec.specs.Bits.{has_any}
-use Rattle.uart_16550.specs.Init.{fifo_bits}
-use Rattle.uart_events.specs.declared.event.Chip.{Chip}
-use Rattle.uart_events.specs.declared.event.Chip.TheVariants.{Uart16550A}
-use Rattle.uart_chip.specs.declared.transmitter.Shifting.{Shifting}
-use Rattle.uart_chip.specs.Transmitter.{TransmitterState, shift, refill, tick, shift_bytes, out}
-use Rattle.uart_spec.specs.declared.setup.FifoSize.{FifoSize}
-use Rattle.uart_chip.specs.Chip.{ChipState, switch, is_same, switched_size, is_switching, switch_size, set_fifo, control, reset_receiver}
-use Rattle.uart_chip.specs.Chip.{reset_transmitter}
-use Rattle.uart_chip.specs.Machine.{MachineState, MachineStep}
-use Rattle.uart_chip.proofs.lasting.Lasting.{Lasts, AllSendNothing, lasts-path}
+use Rattle.uart_chip.specs.Transmitter.{tick}
 use Rattle.uart_run.proofs.sizing.Filling.{AllAre}
 
 -- nothing is queued, and of this byte at most one is in the shift register, or has followed what was on the wire

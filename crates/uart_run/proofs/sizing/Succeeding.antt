@@ -1,40 +1,19 @@
 -- Where ticks come before each access, the spin limit is long enough and the wire has room, a `find_fifo_size` does not stall.
-use Rattle.std.proofs.Common.{refl, ◌≡◌, ◌⊎◌, ℕ, true, false, inl, inr, List, Ok, Err, sym, ◌∙◌, ap, subst}
-use Rattle.uart_spec.specs.declared.errors.FifoSizeError.TheVariants.{Stalled}
+use Rattle.uart_run.proofs.Names.{refl, ◌≡◌, ◌⊎◌, ℕ, true, false, inl, inr, List, Ok, Err, sym, ◌∙◌, ap, subst, Stalled, Path, Access}
+use Rattle.uart_run.proofs.Names.{Settings, Then, WaitsFor, Fields, Saving, Next, fields, settings_of, EntersAt, Leaves, BeginsTest}
+use Rattle.uart_run.proofs.Names.{DrainsLoopback, Floods, Tells, Measures, SwitchesFifo, Sizes, SizesInLoopback, FindsFifoSize, inner_of}
+use Rattle.uart_run.proofs.Names.{out, cut_of, MachineState, MachineStep, IsSound, Modes, loopback-in, State, machine_of, IsTimely, HasRoom}
+use Rattle.uart_run.proofs.Names.{IsUnheld, size_in, IsPlain, MayFind}
 use Rattle.uart_spec.specs.declared.registers.line_status.TheConstants.LSR
-use Rattle.uart_spec.specs.Access.{Path}
-use Rattle.uart_spec.specs.declared.access.Access.{Access}
-use Rattle.uart_16550.specs.Grammar.{Settings, Then}
-use Rattle.uart_16550.specs.Transmit.{WaitsFor}
-use Rattle.uart_16550.specs.Driver.{Fields, Saving, Next, fields, settings_of}
-use Rattle.uart_16550.specs.Loopback.{EntersAt, Leaves, BeginsTest, DrainsLoopback}
-use Rattle.uart_16550.specs.Sizing.{Floods, Tells, Measures, SwitchesFifo, Sizes, SizesInLoopback, FindsFifoSize}
-use Rattle.uart_16550.specs.Tty.{inner_of}
-use Rattle.uart_chip.specs.Transmitter.{out}
-use Rattle.uart_chip.specs.Chip.{cut_of}
-use Rattle.uart_chip.specs.Machine.{MachineState, MachineStep}
-use Rattle.uart_chip.specs.Sound.{IsSound}
-use Rattle.uart_chip.proofs.conservation.Went.{Modes, loopback-in}
-use Rattle.uart_run.specs.Run.{State, machine_of}
-use Rattle.uart_run.specs.Progress.{IsTimely, HasRoom, IsUnheld}
-use Rattle.uart_run.specs.Sizes.{size_in, IsPlain, MayFind}
-use Rattle.uart_run.proofs.Pieces.{then_parts, next_stages}
-use Rattle.uart_run.proofs.loopback.LoopPhases.{IsEntered, drained}
+use Rattle.uart_run.proofs.{Pieces.then_parts, Pieces.next_stages, loopback.LoopPhases.IsEntered, loopback.LoopPhases.drained}
+use Rattle.uart_run.proofs.{loopback.LoopTests.IsBegun, loopback.LoopTests.begun, loopback.LoopTests.looped_modes}
+use Rattle.uart_run.proofs.{loopback.LoopTests.in_loopback, loopback.LoopSucceeds.no_stall-begin, progress.Nearing.Runs}
+use Rattle.uart_run.proofs.{progress.WaitEnds.no_stall-empty, sizing.Counting.Found, NeverSwitched.does_never, SizeKept.left_plain}
+use Rattle.uart_run.proofs.{SizeKept.left_fixed, built.Words.leaves_limit, built.Loopback.begins_test, built.Loopback.drains_loopback}
+use Rattle.uart_run.proofs.{built.Loopback.enters_at, built.Sizing.floods, sizing.Measuring.was_flooded, sizing.Walking.level_on}
+use Rattle.uart_run.proofs.{sizing.Finding.finds_size}
 use Rattle.uart_run.proofs.loopback.LoopWaits.{Lives, lives-path, few_left, never_flooded, looped_off}
-use Rattle.uart_run.proofs.loopback.LoopTests.{IsBegun, begun, looped_modes, in_loopback}
-use Rattle.uart_run.proofs.loopback.LoopSucceeds.{no_stall-begin}
-use Rattle.uart_run.proofs.progress.Nearing.{Runs}
-use Rattle.uart_run.proofs.progress.WaitEnds.{no_stall-empty}
-use Rattle.uart_run.proofs.sizing.Counting.{Found}
 use Rattle.uart_spec.specs.declared.registers.offsets.TheConstants as offsets
-use Rattle.uart_run.proofs.NeverSwitched.{does_never}
-use Rattle.uart_run.proofs.SizeKept.{left_plain, left_fixed}
-use Rattle.uart_run.proofs.built.Words.{leaves_limit}
-use Rattle.uart_run.proofs.built.Loopback.{begins_test, drains_loopback, enters_at}
-use Rattle.uart_run.proofs.built.Sizing.{floods}
-use Rattle.uart_run.proofs.sizing.Measuring.{was_flooded}
-use Rattle.uart_run.proofs.sizing.Walking.{level_on}
-use Rattle.uart_run.proofs.sizing.Finding.{finds_size}
 
 -- ---- the measure
 

@@ -1,56 +1,22 @@
 -- How a `find_fifo_size` goes: a first wait, the way into loopback, the measure, the FIFO step, and the way out.
-use Rattle.std.proofs.Common.{◌≡◌, ◌⊎◌, ◌&&◌, ℕ, Bool, true, false, inl, inr, List, [], ◌∷◌, append-nil, Err, Option, Some}
-use Rattle.std.proofs.Common.{◌≤◌, arith, refl, sym, ◌∙◌, ap, subst, bit_and, if◌then◌else◌, unwrap_or}
-use Rattle.uart_spec.specs.declared.config.Config.{Config}
-use Rattle.uart_spec.specs.declared.setup.FifoSize.{FifoSize}
-use Rattle.uart_spec.specs.declared.errors.FifoSizeError.TheVariants.{Stalled}
-use Rattle.uart_spec.specs.declared.registers.fifo_trigger_level.FifoTriggerLevel.{FifoTriggerLevel}
-use Rattle.uart_spec.specs.declared.registers.fifo_trigger_level.FifoTriggerLevel.TheVariants.{One}
+use Rattle.uart_run.proofs.Names.{◌≡◌, ◌⊎◌, ◌&&◌, ℕ, Bool, true, false, inl, inr, List, [], ◌∷◌, append-nil, Err, Option, Some, ◌≤◌, arith}
+use Rattle.uart_run.proofs.Names.{refl, sym, ◌∙◌, ap, subst, bit_and, if◌then◌else◌, unwrap_or, Config, FifoSize, Stalled, FifoTriggerLevel}
+use Rattle.uart_run.proofs.Names.{One, Path, Access, Read, Settings, Only, Fields, Saving, Sets, Next, fields, settings_of, with_fifo}
+use Rattle.uart_run.proofs.Names.{WaitsFor, SetsFifo, level_of, EntersAt, Leaves, BeginsTest, Measures, SwitchesFifo, Sizes}
+use Rattle.uart_run.proofs.Names.{SizesInLoopback, FindsFifoSize, inner_of, Chip, ier_bits, mcr_bits_of, kept_mcr, kept_same, out, cut_of}
+use Rattle.uart_run.proofs.Names.{is_dlab_set, MachineState, MachineStep, IsSound, sound_path, Modes, IsIn, IsOpen, Stands, path_as}
+use Rattle.uart_run.proofs.Names.{IsLooped, State, machine_of, has_fifo, transmitter_of, IsPlain, size_in, IsWithin}
 use Rattle.uart_spec.specs.declared.registers.line_status.TheConstants.LSR
 use Rattle.uart_spec.specs.declared.registers.offsets.TheConstants as offsets
-use Rattle.uart_spec.specs.Access.{Path}
-use Rattle.uart_spec.specs.declared.access.Access.{Access}
-use Rattle.uart_spec.specs.declared.access.Access.TheVariants.{Read}
-use Rattle.uart_16550.specs.Grammar.{Settings, Only}
-use Rattle.uart_16550.specs.Driver.{Fields, Saving, Sets, Next, fields, settings_of, with_fifo}
-use Rattle.uart_16550.specs.Transmit.{WaitsFor}
-use Rattle.uart_16550.specs.Init.{SetsFifo}
-use Rattle.uart_16550.specs.Setup.{level_of}
-use Rattle.uart_16550.specs.Loopback.{EntersAt, Leaves, BeginsTest}
-use Rattle.uart_16550.specs.Sizing.{Measures, SwitchesFifo, Sizes, SizesInLoopback, FindsFifoSize}
-use Rattle.uart_16550.specs.Tty.{inner_of}
-use Rattle.uart_events.specs.declared.event.Chip.{Chip}
-use Rattle.uart_chip.specs.Masks.{ier_bits, mcr_bits_of, kept_mcr}
-use Rattle.uart_chip.proofs.McrBits.{kept_same}
-use Rattle.uart_chip.specs.Transmitter.{out}
-use Rattle.uart_chip.specs.Chip.{cut_of, is_dlab_set}
-use Rattle.uart_chip.specs.Machine.{MachineState, MachineStep}
-use Rattle.uart_chip.specs.Sound.{IsSound}
-use Rattle.uart_chip.proofs.soundness.Sounds.{sound_path}
-use Rattle.uart_run.proofs.NeverSwitched.{does_never}
-use Rattle.uart_run.proofs.SizeKept.{size_left, left_plain, left_fixed}
-use Rattle.uart_chip.proofs.conservation.Went.{Modes, IsIn}
-use Rattle.uart_chip.proofs.conservation.BlockLaws.{IsOpen, Stands, path_as}
-use Rattle.uart_chip.proofs.loopback.LoopAccesses.{IsLooped}
-use Rattle.uart_run.specs.Run.{State, machine_of}
-use Rattle.uart_run.specs.Ready.{has_fifo}
-use Rattle.uart_run.specs.Served.{transmitter_of}
-use Rattle.uart_run.specs.Sizes.{IsPlain, size_in}
+use Rattle.uart_run.proofs.{NeverSwitched.does_never, SizeKept.size_left, SizeKept.left_plain, SizeKept.left_fixed, CallKeeps.quiet_blocks}
+use Rattle.uart_run.proofs.{KeptLists.kept_still, Pieces.then_parts, Pieces.next_stages, initialising.FifoSteps.sets_fifo}
+use Rattle.uart_run.proofs.{loopback.LoopTests.IsBegun, loopback.LoopTests.begun, loopback.LoopTests.looped_modes}
+use Rattle.uart_run.proofs.{loopback.LoopTests.in_loopback, built.Loopback.begins_test, built.Loopback.enters_at, built.Sizing.measures}
+use Rattle.uart_run.proofs.{loopback.TestedReady.left, sizing.Counting.Found, sizing.Measuring.FoundIn, sizing.Measuring.TellsAll}
+use Rattle.uart_run.proofs.{sizing.Measuring.measured, sizing.Remaining.come_path}
 use Rattle.uart_run.proofs.CallBlocks.{Makes, most_in, makes_then, passed_silently, waits_blocks}
-use Rattle.uart_run.proofs.CallKeeps.{quiet_blocks}
-use Rattle.uart_run.proofs.KeptLists.{kept_still}
 use Rattle.uart_run.proofs.Latches.{Kept, kept_in, kept_after, kept_list, kept_step, kept_access}
-use Rattle.uart_run.proofs.Pieces.{then_parts, next_stages}
-use Rattle.uart_run.proofs.initialising.FifoSteps.{sets_fifo}
-use Rattle.uart_run.proofs.loopback.LoopTests.{IsBegun, begun, looped_modes, in_loopback}
-use Rattle.uart_run.proofs.built.Loopback.{begins_test, enters_at}
-use Rattle.uart_run.proofs.built.Sizing.{measures}
 use Rattle.uart_run.proofs.loopback.TestedReady.{entered, mcr_read, looped, restored, leaving, written_back}
-use Rattle.uart_run.proofs.loopback.TestedReady.{left}
-use Rattle.uart_run.proofs.sizing.Counting.{Found}
-use Rattle.uart_run.proofs.sizing.Measuring.{FoundIn, TellsAll, measured}
-use Rattle.uart_run.proofs.sizing.Remaining.{come_path}
-use Rattle.uart_spec.specs.Bits.{IsWithin}
 
 -- ---- before the loopback
 

@@ -1,5 +1,4 @@
-use Rattle.std.proofs.Common.{◌≡◌, ◌≤◌, ◌++◌, length, drop, vec_len, vec_capacity}
-use Rattle.uart_link.specs.Cable.{events_of}
+use Rattle.uart_link.proofs.Names.{◌≡◌, ◌≤◌, ◌++◌, length, drop, vec_len, vec_capacity, events_of}
 use Rattle.uart_link.proofs.device.put_events.Given as goal
 
 -- the events that were put, and those of the moments that are left, are all

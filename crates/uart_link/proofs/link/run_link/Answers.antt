@@ -1,6 +1,4 @@
-use Rattle.std.proofs.Common.{arith}
-use Rattle.uart_run.proofs.Chains.{run_nothing, run_step}
-use Rattle.uart_link.specs.Link.{LinkCallStep}
+use Rattle.uart_link.proofs.Names.{arith, run_nothing, run_step, LinkCallStep}
 use Rattle.uart_link.proofs.LinkSounds.{ran_link}
 use Rattle.uart_link.proofs.link.run_link.Goals as goal
 

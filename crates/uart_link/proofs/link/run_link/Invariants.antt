@@ -1,6 +1,4 @@
-use Rattle.std.proofs.Common.{take}
-use Rattle.uart_run.specs.Chains.{RunOf}
-use Rattle.uart_link.specs.Link.{LinkCallStep}
+use Rattle.uart_link.proofs.Names.{take, RunOf, LinkCallStep}
 use Rattle.uart_link.proofs.link.run_link.Given as goal
 
 abbrev pub invariant-loop-i : goal.invariant-loop-i

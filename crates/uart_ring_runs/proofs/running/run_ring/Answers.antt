@@ -1,6 +1,4 @@
-use Rattle.std.proofs.Common.{arith}
-use Rattle.uart_run.proofs.Chains.{run_nothing, run_step}
-use Rattle.uart_ring_runs.specs.RingRun.{RingCallStep}
+use Rattle.uart_ring_runs.proofs.Names.{arith, run_nothing, run_step, RingCallStep}
 use Rattle.uart_ring_runs.proofs.RingSessions.{ran_ring}
 use Rattle.uart_ring_runs.proofs.running.run_ring.Goals as goal
 

@@ -1,6 +1,4 @@
-use Rattle.std.proofs.Common.{take}
-use Rattle.uart_run.specs.Chains.{RunOf}
-use Rattle.uart_ring_runs.specs.RingRun.{RingCallStep}
+use Rattle.uart_ring_runs.proofs.Names.{take, RunOf, RingCallStep}
 use Rattle.uart_ring_runs.proofs.running.run_ring.Given as goal
 
 abbrev pub invariant-loop-i : goal.invariant-loop-i

@@ -1,5 +1,4 @@
-use Rattle.uart_run.proofs.Follows.{ran}
-use Rattle.uart_run.proofs.Uncuts.{ran_uncut}
+use Rattle.uart_run.proofs.{Follows.ran, Uncuts.ran_uncut}
 use Rattle.uart_run.proofs.laws.calls_in_turn_are_runs.Goals as goal
 
 pub returns : goal.returns

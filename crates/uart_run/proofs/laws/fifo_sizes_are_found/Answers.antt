@@ -1,7 +1,6 @@
-use Rattle.uart_run.specs.ReceivedErrors.{under_terminal}
-use Rattle.uart_run.proofs.sizing.Finding.{finds_off, finds_size, may_find}
-use Rattle.uart_run.proofs.sizing.Lacking.{finds_none}
-use Rattle.uart_run.proofs.sizing.Succeeding.{never, size_found}
+use Rattle.uart_run.proofs.Names.{under_terminal}
+use Rattle.uart_run.proofs.{sizing.Finding.finds_off, sizing.Finding.finds_size, sizing.Finding.may_find, sizing.Lacking.finds_none}
+use Rattle.uart_run.proofs.{sizing.Succeeding.never, sizing.Succeeding.size_found}
 use Rattle.uart_run.proofs.laws.fifo_sizes_are_found.Goals as goal
 
 pub returns : goal.returns

@@ -1,4 +1,4 @@
-use Rattle.uart_run.specs.ReceivedErrors.{under_terminal}
+use Rattle.uart_run.proofs.Names.{under_terminal}
 use Rattle.uart_run.proofs.sizing.Enabling.{enables, enables_off, ends}
 use Rattle.uart_run.proofs.laws.fifos_of_64_are_enabled.Goals as goal
 

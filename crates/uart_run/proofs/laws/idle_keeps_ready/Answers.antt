@@ -1,4 +1,4 @@
-use Rattle.std.proofs.Common.{refl}
+use Rattle.uart_run.proofs.Names.{refl}
 use Rattle.uart_run.proofs.ReadyTicks.{ready_ticks}
 use Rattle.uart_run.proofs.laws.idle_keeps_ready.Goals as goal
 

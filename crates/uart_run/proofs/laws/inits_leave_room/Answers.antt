@@ -1,4 +1,4 @@
-use Rattle.uart_16550.specs.Driver.{backend_of, fields}
+use Rattle.uart_run.proofs.Names.{backend_of, fields}
 use Rattle.uart_run.proofs.initialising.InitRoom.{init_room}
 use Rattle.uart_run.proofs.laws.inits_leave_room.Goals as goal
 

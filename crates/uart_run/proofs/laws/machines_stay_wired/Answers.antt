@@ -1,4 +1,4 @@
-use Rattle.std.proofs.Common.{refl}
+use Rattle.uart_run.proofs.Names.{refl}
 use Rattle.uart_run.proofs.Wired.{wired-ticks, wired_mark, wired_step}
 use Rattle.uart_run.proofs.laws.machines_stay_wired.Goals as goal
 

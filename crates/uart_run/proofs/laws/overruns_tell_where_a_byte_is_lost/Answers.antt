@@ -1,6 +1,5 @@
-use Rattle.uart_16550.specs.Driver.{backend_of}
-use Rattle.uart_run.proofs.ExactErrors.{overruns_stand, flag_stands}
-use Rattle.uart_run.proofs.Overruns.{flag_looked}
+use Rattle.uart_run.proofs.Names.{backend_of}
+use Rattle.uart_run.proofs.{ExactErrors.overruns_stand, ExactErrors.flag_stands, Overruns.flag_looked}
 use Rattle.uart_run.proofs.laws.overruns_tell_where_a_byte_is_lost.Goals as goal
 
 pub returns : goal.returns

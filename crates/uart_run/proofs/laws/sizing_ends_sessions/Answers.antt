@@ -1,4 +1,4 @@
-use Rattle.uart_run.specs.ReceivedErrors.{under_terminal}
+use Rattle.uart_run.proofs.Names.{under_terminal}
 use Rattle.uart_run.proofs.sizing.SessionEnds.{enabling_ends, finding_ends}
 use Rattle.uart_run.proofs.laws.sizing_ends_sessions.Goals as goal
 

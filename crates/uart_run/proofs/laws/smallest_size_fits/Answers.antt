@@ -1,5 +1,4 @@
-use Rattle.uart_16550.specs.Driver.{backend_of}
-use Rattle.uart_chip.proofs.Sizes.{at_least_16}
+use Rattle.uart_run.proofs.Names.{backend_of, at_least_16}
 use Rattle.uart_run.proofs.laws.smallest_size_fits.Goals as goal
 
 pub returns : goal.returns

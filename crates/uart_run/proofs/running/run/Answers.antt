@@ -1,8 +1,5 @@
-use Rattle.std.proofs.Common.{arith}
-use Rattle.uart_run.specs.Run.{CallStep}
-use Rattle.uart_run.proofs.Chains.{run_nothing, run_step, run_whole}
-use Rattle.uart_run.proofs.Follows.{ran}
-use Rattle.uart_run.proofs.Uncuts.{ran_uncut}
+use Rattle.uart_run.proofs.Names.{arith, CallStep}
+use Rattle.uart_run.proofs.{Chains.run_nothing, Chains.run_step, Chains.run_whole, Follows.ran, Uncuts.ran_uncut}
 use Rattle.uart_run.proofs.running.run.Goals as goal
 
 pub loop-i-init : goal.loop-i-init

@@ -1,5 +1,4 @@
-use Rattle.std.proofs.Common.{take}
-use Rattle.uart_run.specs.Run.{IsRun}
+use Rattle.uart_run.proofs.Names.{take, IsRun}
 use Rattle.uart_run.proofs.running.run.Given as goal
 
 abbrev pub invariant-loop-i : goal.invariant-loop-i

@@ -1,10 +1,5 @@
-use Rattle.std.proofs.Common.{◌∙◌, ◌+◌, length, arith, sym, ap}
-use Rattle.std.specs.List.{count_by}
-use Rattle.uart_events.specs.Build.{is_arrival}
-use Rattle.uart_chip.specs.Machine.{MachineState}
-use Rattle.uart_chip.proofs.soundness.Builds.{arrivals-count}
-use Rattle.uart_link.proofs.Arranges.{put_arranged, is_put}
-use Rattle.uart_link.proofs.Schedules.{has_settled, few_remain}
+use Rattle.uart_link.proofs.Names.{◌∙◌, ◌+◌, length, arith, sym, ap, count_by, is_arrival, MachineState, arrivals-count}
+use Rattle.uart_link.proofs.{Arranges.put_arranged, Arranges.is_put, Schedules.has_settled, Schedules.few_remain}
 use Rattle.uart_link.proofs.device.CabledChip.arrange.Goals as goal
 
 pub overflow_sub-arrived : goal.overflow_sub-arrived

@@ -1,7 +1,4 @@
-use Rattle.std.proofs.Common.{◌∙◌, ap, arith, sym}
-use Rattle.std.specs.List.{count_by}
-use Rattle.uart_events.specs.Build.{is_arrival}
-use Rattle.uart_chip.proofs.soundness.Builds.{arrivals-count}
+use Rattle.uart_link.proofs.Names.{◌∙◌, ap, arith, sym, count_by, is_arrival, arrivals-count}
 use Rattle.uart_link.proofs.Schedules.{has_settled, is_expected}
 use Rattle.uart_link.proofs.device.CabledChip.expect.Goals as goal
 

@@ -1,5 +1,4 @@
-use Rattle.std.proofs.Common.{◌≡◌, length, arith}
-use Rattle.std.proofs.lemmas.Grind.{common_steps}
+use Rattle.uart_link.proofs.Names.{◌≡◌, length, arith, common_steps}
 use Rattle.uart_link.proofs.News.{untouched}
 use Rattle.uart_link.proofs.device.CabledChip.is_untouched.Goals as goal
 

@@ -1,4 +1,4 @@
-use Rattle.std.proofs.Common.{arith, sym}
+use Rattle.uart_link.proofs.Names.{arith, sym}
 use Rattle.uart_link.proofs.News.{is_new, known_new}
 use Rattle.uart_link.proofs.device.CabledChip.new_sized.Goals as goal
 

@@ -1,6 +1,4 @@
-use Rattle.std.proofs.Common.{◌≡◌, ◌∙◌, true, arith, ap}
-use Rattle.std.proofs.lemmas.Grind.{common_steps}
-use Rattle.uart_link.specs.Cable.{may_happen, settled, to_come}
+use Rattle.uart_link.proofs.Names.{◌≡◌, ◌∙◌, true, arith, ap, common_steps, may_happen, settled, to_come}
 use Rattle.uart_link.proofs.Schedules.{is_allowed, performs}
 use Rattle.uart_link.proofs.device.CabledChip.perform.Goals as goal
 

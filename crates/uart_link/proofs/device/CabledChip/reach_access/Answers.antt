@@ -1,8 +1,5 @@
-use Rattle.std.proofs.Common.{◌<◌, length, arith}
-use Rattle.uart_chip.specs.Machine.{at_access}
+use Rattle.uart_link.proofs.Names.{◌<◌, length, arith, at_access, whole_tick, wired-ticks}
 use Rattle.uart_chip.proofs.soundness.Schedules.{access_performs}
-use Rattle.uart_chip.proofs.soundness.Sounds.{whole_tick}
-use Rattle.uart_run.proofs.Wired.{wired-ticks}
 use Rattle.uart_link.proofs.Schedules.{goes_on}
 use Rattle.uart_link.proofs.device.CabledChip.reach_access.Goals as goal
 

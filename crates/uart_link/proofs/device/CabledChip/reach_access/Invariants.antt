@@ -1,6 +1,4 @@
-use Rattle.std.proofs.Common.{◌-◌, ◌≤◌, vec_len, vec_capacity}
-use Rattle.uart_chip.specs.Machine.{at_access}
-use Rattle.uart_link.specs.declared.call.TheConstants.{CALL_MOMENTS}
+use Rattle.uart_link.proofs.Names.{◌-◌, ◌≤◌, vec_len, vec_capacity, at_access, CALL_MOMENTS}
 use Rattle.uart_link.proofs.Schedules.{IsOnTheWay}
 use Rattle.uart_link.proofs.device.CabledChip.reach_access.Given as goal
 

@@ -1,5 +1,4 @@
-use Rattle.std.proofs.Common.{◌<◌, ◌∙◌, length, arith}
-use Rattle.uart_link.specs.Cable.{settled}
+use Rattle.uart_link.proofs.Names.{◌<◌, ◌∙◌, length, arith, settled}
 use Rattle.uart_link.proofs.Schedules.{goes_on, settle_performs, settled_all}
 use Rattle.uart_link.proofs.device.CabledChip.settle.Goals as goal
 

@@ -1,4 +1,4 @@
-use Rattle.uart_chip.proofs.soundness.Sounds.{whole_read}
+use Rattle.uart_link.proofs.Names.{whole_read}
 use Rattle.uart_link.proofs.Wireds.{wired_read}
 use Rattle.uart_link.proofs.device.CabledChipBackend.read.Goals as goal
 

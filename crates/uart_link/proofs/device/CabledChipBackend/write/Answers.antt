@@ -1,6 +1,5 @@
-use Rattle.std.proofs.Common.{rules}
+use Rattle.uart_link.proofs.Names.{rules, whole_write}
 use Rattle.std.proofs.Math.Facts.{Fits-lt-pow}
-use Rattle.uart_chip.proofs.soundness.Sounds.{whole_write}
 use Rattle.uart_link.proofs.Wireds.{wired_write}
 use Rattle.uart_link.proofs.device.CabledChipBackend.write.Goals as goal
 
