@@ -24,8 +24,13 @@ class Package:
         return self.entries.get("lib", {}).get("name", self.entries["package"]["name"]).replace("-", "_")
 
     def dependencies(self, packages):
-        """What the package depends on: the name that it has here, and the package. One that is optional must be on, and is not here."""
+        """What the package depends on: the name that it has here, and the package. One that is optional is used if a feature that is on
+        asks for it. What has no path is not here."""
+        lists = (self.entries.get("features", {}).get(one, []) for one in self.features)
+        asked = {one.removeprefix("dep:") for asks in lists for one in asks if one.startswith("dep:")}
         for name, wanted in self.entries.get("dependencies", {}).items():
+            if "path" in wanted and wanted.get("optional") and name not in asked:
+                continue
             if "path" in wanted:
                 yield name, load((self.folder / wanted["path"]).resolve(), packages)
             elif name in self.features:

@@ -11,5 +11,4 @@ pub mod Dump
 pub mod FifoSize
 pub mod Checked
 pub mod Layout
-pub mod Original
 pub mod Timing

@@ -208,7 +208,7 @@ pub enum RemoteReadyToReceiveError {
 
 // How each message of a [`LoopbackError`] begins. It is a constant because `rt` takes an attribute
 // with the word `test` for that of a test.
-pub(crate) const LOOPBACK: &str = "loopback test failed";
+const LOOPBACK: &str = "loopback test failed";
 
 /// Why a loopback test failed.
 #[derive(Clone, Debug, PartialEq, Eq, Hash, Drop, Error)]
@@ -286,7 +286,7 @@ pub enum Uart16550TtyError {
 
 // A test message as text, if each byte is printable ASCII.
 #[derive(Drop)]
-pub(crate) struct Message<'a>(pub(crate) &'a [u8; 16]);
+struct Message<'a>(&'a [u8; 16]);
 
 impl fmt::Display for Message<'_> {
     fn fmt<W: fmt::Write>(&self, f: &mut fmt::Formatter<W>) -> fmt::Result {

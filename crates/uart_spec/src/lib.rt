@@ -15,7 +15,6 @@ mod dump;
 mod errors;
 pub mod laws;
 mod layout;
-pub mod original;
 mod received;
 pub mod registers;
 mod setup;

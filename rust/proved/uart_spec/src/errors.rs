@@ -436,7 +436,7 @@ impl std::error::Error for RemoteReadyToReceiveError {}
 
 // How each message of a [`LoopbackError`] begins. It is a constant because `rt` takes an attribute
 // with the word `test` for that of a test.
-pub(crate) const LOOPBACK: &str = "loopback test failed";
+const LOOPBACK: &str = "loopback test failed";
 
 /// Why a loopback test failed.
 #[cfg_attr(not(feature = "exhaustive"), non_exhaustive)]
@@ -586,7 +586,7 @@ impl std::fmt::Display for Uart16550TtyError {
 }
 
 // A test message as text, if each byte is printable ASCII.
-pub(crate) struct Message<'a>(pub(crate) &'a [u8; 16]);
+struct Message<'a>(&'a [u8; 16]);
 
 impl fmt::Display for Message<'_> {
     fn fmt(&self, f: &mut fmt::Formatter<'_>) -> fmt::Result {

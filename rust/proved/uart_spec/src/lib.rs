@@ -21,7 +21,6 @@ mod config;
 mod dump;
 mod errors;
 mod layout;
-pub mod original;
 mod received;
 pub mod registers;
 mod setup;

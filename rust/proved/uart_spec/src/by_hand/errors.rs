@@ -1,6 +1,5 @@
 //! What Rust's errors are beside their texts: [`core::error::Error`] with the cause, and `Copy`.
 
-use crate::original;
 use crate::{
     ByteReceiveError, ByteSendError, FifoSizeError, FrameError, InitError, InvalidAddressError, InvalidDivisorError,
     InvalidLayoutError, LoopbackError, NearestDivisorError, NonIntegerBaudRateError, NonIntegerDivisorError, RemoteReadyToReceiveError,
@@ -28,9 +27,6 @@ with_cause! {
     FrameError { InvalidBaudRate; Stalled }
     LoopbackError { SendError; UnexpectedLoopbackByte, UnexpectedLoopbackMsg, Stalled }
     Uart16550TtyError { InitError, TestError; AddressError }
-    original::InitError { InvalidBaudRate; DeviceNotPresent }
-    original::LoopbackError { SendError; UnexpectedLoopbackByte, UnexpectedLoopbackMsg }
-    original::Uart16550TtyError { InitError, TestError; AddressError }
 }
 
 macro_rules! copied {
@@ -40,8 +36,7 @@ macro_rules! copied {
 copied! {
     NonIntegerBaudRateError, NonIntegerDivisorError, InvalidDivisorError, NearestDivisorError, FrameError, InvalidAddressError,
     ByteReceiveError, ByteSendError, RemoteReadyToReceiveError, InitError, LoopbackError, StalledError, Uart16550TtyError,
-    FifoSizeError, InvalidLayoutError, original::InvalidDivisorError, original::InitError, original::LoopbackError,
-    original::Uart16550TtyError
+    FifoSizeError, InvalidLayoutError
 }
 
 #[cfg(feature = "embedded-io")]

@@ -1,9 +1,8 @@
 //! The errors of the original as those of the driver, which has each of their cases.
 
-use super::{InitError, InvalidDivisorError, LoopbackError, Uart16550TtyError};
-use crate::errors;
+use crate::{InitError, InvalidDivisorError, LoopbackError, Uart16550TtyError};
 
-impl From<InvalidDivisorError> for errors::InvalidDivisorError {
+impl From<InvalidDivisorError> for uart_spec::InvalidDivisorError {
     fn from(error: InvalidDivisorError) -> Self {
         match error {
             InvalidDivisorError::NonInteger(cause) => Self::NonInteger(cause),
@@ -12,7 +11,7 @@ impl From<InvalidDivisorError> for errors::InvalidDivisorError {
     }
 }
 
-impl From<InitError> for errors::InitError {
+impl From<InitError> for uart_spec::InitError {
     fn from(error: InitError) -> Self {
         match error {
             InitError::DeviceNotPresent => Self::DeviceNotPresent,
@@ -21,7 +20,7 @@ impl From<InitError> for errors::InitError {
     }
 }
 
-impl From<LoopbackError> for errors::LoopbackError {
+impl From<LoopbackError> for uart_spec::LoopbackError {
     fn from(error: LoopbackError) -> Self {
         match error {
             LoopbackError::SendError(cause) => Self::SendError(cause),
@@ -35,7 +34,7 @@ impl From<LoopbackError> for errors::LoopbackError {
     }
 }
 
-impl From<Uart16550TtyError> for errors::Uart16550TtyError {
+impl From<Uart16550TtyError> for uart_spec::Uart16550TtyError {
     fn from(error: Uart16550TtyError) -> Self {
         match error {
             Uart16550TtyError::AddressError(cause) => Self::AddressError(cause),

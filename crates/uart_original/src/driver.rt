@@ -1,11 +1,10 @@
 //! The errors of the original as those of the driver, which has each of their cases.
 ghost use Rattle.std.specs.Prelude.{◌≡◌};
-ghost use Rattle.uart_spec.specs.Original.{divisor_error, init_error, loopback_error, tty_error};
+ghost use Rattle.uart_original.specs.Original.{divisor_error, init_error, loopback_error, tty_error};
 
-use super::{InitError, InvalidDivisorError, LoopbackError, Uart16550TtyError};
-use crate::errors;
+use crate::{InitError, InvalidDivisorError, LoopbackError, Uart16550TtyError};
 
-impl From<InvalidDivisorError> for errors::InvalidDivisorError {
+impl From<InvalidDivisorError> for uart_spec::InvalidDivisorError {
     ghost from_gives = { λ own error. error ≡ divisor_error own };
 
     fn from(error: InvalidDivisorError) -> Self {
@@ -16,7 +15,7 @@ impl From<InvalidDivisorError> for errors::InvalidDivisorError {
     }
 }
 
-impl From<InitError> for errors::InitError {
+impl From<InitError> for uart_spec::InitError {
     ghost from_gives = { λ own error. error ≡ init_error own };
 
     fn from(error: InitError) -> Self {
@@ -27,7 +26,7 @@ impl From<InitError> for errors::InitError {
     }
 }
 
-impl From<LoopbackError> for errors::LoopbackError {
+impl From<LoopbackError> for uart_spec::LoopbackError {
     ghost from_gives = { λ own error. error ≡ loopback_error own };
 
     fn from(error: LoopbackError) -> Self {
@@ -43,7 +42,7 @@ impl From<LoopbackError> for errors::LoopbackError {
     }
 }
 
-impl From<Uart16550TtyError> for errors::Uart16550TtyError {
+impl From<Uart16550TtyError> for uart_spec::Uart16550TtyError {
     ghost from_gives = { λ own error. error ≡ tty_error own };
 
     fn from(error: Uart16550TtyError) -> Self {

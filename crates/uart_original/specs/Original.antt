@@ -5,7 +5,7 @@ use Rattle.uart_spec.specs.Checked.{IsCheckedRate}
 use Rattle.uart_spec.specs.Dump.{divisor_of}
 use Rattle.uart_spec.specs.declared.config.Config.{Config}
 use Rattle.uart_spec.specs.declared.dump.ConfigRegisterDump.{ConfigRegisterDump}
-use Rattle.uart_spec.specs.declared.original.ConfigRegisterDump.{ConfigRegisterDump as OwnConfigRegisterDump}
+use Rattle.uart_original.specs.declared.dump.ConfigRegisterDump.{ConfigRegisterDump as OwnConfigRegisterDump}
 use Rattle.uart_spec.specs.declared.errors.InitError.{InitError}
 use Rattle.uart_spec.specs.declared.errors.InvalidDivisorError.{InvalidDivisorError}
 use Rattle.uart_spec.specs.declared.errors.LoopbackError.{LoopbackError}
@@ -14,14 +14,14 @@ use Rattle.uart_spec.specs.declared.errors.InitError.TheVariants as init
 use Rattle.uart_spec.specs.declared.errors.InvalidDivisorError.TheVariants as divisor
 use Rattle.uart_spec.specs.declared.errors.LoopbackError.TheVariants as loopback
 use Rattle.uart_spec.specs.declared.errors.Uart16550TtyError.TheVariants as tty
-use Rattle.uart_spec.specs.declared.original.InitError.{InitError as OwnInitError}
-use Rattle.uart_spec.specs.declared.original.InvalidDivisorError.{InvalidDivisorError as OwnInvalidDivisorError}
-use Rattle.uart_spec.specs.declared.original.LoopbackError.{LoopbackError as OwnLoopbackError}
-use Rattle.uart_spec.specs.declared.original.Uart16550TtyError.{Uart16550TtyError as OwnUart16550TtyError}
-use Rattle.uart_spec.specs.declared.original.InitError.TheVariants as own_init
-use Rattle.uart_spec.specs.declared.original.InvalidDivisorError.TheVariants as own_divisor
-use Rattle.uart_spec.specs.declared.original.LoopbackError.TheVariants as own_loopback
-use Rattle.uart_spec.specs.declared.original.Uart16550TtyError.TheVariants as own_tty
+use Rattle.uart_original.specs.declared.errors.InitError.{InitError as OwnInitError}
+use Rattle.uart_original.specs.declared.errors.InvalidDivisorError.{InvalidDivisorError as OwnInvalidDivisorError}
+use Rattle.uart_original.specs.declared.errors.LoopbackError.{LoopbackError as OwnLoopbackError}
+use Rattle.uart_original.specs.declared.errors.Uart16550TtyError.{Uart16550TtyError as OwnUart16550TtyError}
+use Rattle.uart_original.specs.declared.errors.InitError.TheVariants as own_init
+use Rattle.uart_original.specs.declared.errors.InvalidDivisorError.TheVariants as own_divisor
+use Rattle.uart_original.specs.declared.errors.LoopbackError.TheVariants as own_loopback
+use Rattle.uart_original.specs.declared.errors.Uart16550TtyError.TheVariants as own_tty
 
 -- the driver's error for one of the original: the same case
 abbrev pub divisor_error : OwnInvalidDivisorError → InvalidDivisorError
