@@ -13,17 +13,18 @@ use Rattle.uart_events.specs.declared.event.Event.TheVariants.{Ticks, Lines}
 use Rattle.uart_events.specs.declared.event.Event.TheVariants as event
 use Rattle.uart_chip.specs.declared.receiver.Character.{Character}
 use Rattle.uart_chip.specs.declared.receiver.Origin.TheVariants.{Arrived}
-use Rattle.uart_chip.specs.Chip.{ChipState, cut_of, is_dlab_set, is_loopback, ticks}
+use Rattle.uart_chip.specs.Chip.{ChipState, cut_of, is_dlab_set, is_held_off, is_loopback, ticks}
 use Rattle.uart_chip.specs.Machine.{MachineState, perform}
 use Rattle.uart_chip.specs.Receiver.{ReceiverState, enter, replace}
 use Rattle.uart_chip.specs.Receiver as receiver
 use Rattle.uart_chip.specs.Sound.{IsSound}
+use Rattle.uart_spec.specs.declared.setup.FifoSize.{FifoSize}
 use Rattle.uart_spec.specs.declared.setup.FifoSize.TheVariants.{Sixteen}
 use Rattle.uart_spec.specs.FifoSize.{characters}
 use Rattle.uart_chip.specs.Transmitter.{room}
 use Rattle.uart_chip.proofs.Sizes.{room_least}
 use Rattle.uart_chip.proofs.lasting.Lasting.{LastsInEvents}
-use Rattle.uart_chip.proofs.soundness.Sounds.{sound_perform}
+use Rattle.uart_chip.proofs.soundness.Sounds.{size-tick, sound_perform}
 use Rattle.uart_run.proofs.Latches.{Kept, kept_in}
 use Rattle.uart_judges.specs.History.{next, next_count, waiting_after}
 use Rattle.uart_judges.specs.Setups.{next_is_open}
@@ -138,10 +139,22 @@ counted n (Some mcr) has_fifo loopback fifo byte errors r e f h still = go (has 
         (let least = least_fits has_fifo fifo f in let any = room_least fifo r.size in omega (arith, least, any))
         (one_arrives n fifo (record { byte = byte; errors = errors; origin = Arrived r.arrived }) (record r { arrived = r.arrived + 1 }) h))
 
-still_left : (n left : ℕ) (rests : Bool) (before queued : ℕ) (fifo on : Bool) → on ≡ fifo → min n (room fifo Sixteen) ≤ before + left →
-    min (next_count n rests false) (room on Sixteen) ≤ queued + (if rests then 0 else left + (before - queued))
-still_left n left true before queued fifo on e h = none_sent (room on Sixteen) (queued + 0)
-still_left n left false before queued fifo on e h = rw e (left_grows n (room fifo Sixteen) queued left before h)
+still_left : (n left : ℕ) (rests : Bool) (before queued : ℕ) (fifo on : Bool) (size after : FifoSize) → on ≡ fifo → after ≡ size →
+    min n (room fifo size) ≤ before + left → min (next_count n rests false) (room on after) ≤ queued + (if rests then 0 else left +
+    (before - queued))
+still_left n left true before queued fifo on size after e z h = none_sent (room on after) (queued + 0)
+still_left n left false before queued fifo on size after e z h = rw (e, z) (left_grows n (room fifo size) queued left before h)
+
+-- the FIFO of the transmitter has this size
+abbrev Holds : FifoSize → ChipState → Type 0
+Holds size c = c.transmitter.size ≡ size
+
+holds_last : (size : FifoSize) → LastsInEvents (Holds size)
+holds_last size = record {
+  in_tick = λ c e. size-tick (is_loopback c.latches) (is_held_off c) c.transmitter ∙ e;
+  in_arrival = λ byte errors c e. e;
+  in_lines = λ inputs c e. e;
+}
 
 -- ---- all of it
 
@@ -163,6 +176,9 @@ after_arrival a left m n s byte errors is same sound k next_one =
     let w = subst (λ (c : ChipState). Waits a.waiting m.chip.receiver.trigger c.fifo c.receiver) (sym next_one.chip) still in
     let kept : kept_in n.chip ≡ kept_in m.chip = ap (λ (c : ChipState). kept_in c) next_one.chip ∙ g.kept in
     let fifo : n.chip.fifo ≡ m.chip.fifo = ap (λ (k : Kept). k.fifo) kept in
+    let size : n.chip.transmitter.size ≡ m.chip.transmitter.size =
+    ap (λ (c : ChipState). c.transmitter.size) next_one.chip ∙
+    lasts_events (Holds m.chip.transmitter.size) (holds_last m.chip.transmitter.size) next_one.before m.chip refl in
     record {
       model = ap (λ (k : Kept). k.model) kept ∙ k.model;
       dlab =
@@ -194,5 +210,5 @@ after_arrival a left m n s byte errors is same sound k next_one =
           (if shows_room s then 0 else left + (length m.chip.transmitter.queue - length n.chip.transmitter.queue)) n.chip)
           (sym is)
           (still_left a.sent left (shows_room s) (length m.chip.transmitter.queue) (length n.chip.transmitter.queue) m.chip.fifo n.chip.fifo
-          fifo k.sent);
+          m.chip.transmitter.size n.chip.transmitter.size fifo size k.sent);
     }

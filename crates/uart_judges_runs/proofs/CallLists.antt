@@ -9,7 +9,7 @@ use Rattle.uart_spec.specs.declared.registers.fifo_trigger_level.FifoTriggerLeve
 use Rattle.uart_spec.specs.declared.registers.fifo_trigger_level.FifoTriggerLevel.TheVariants.{One}
 use Rattle.uart_spec.specs.declared.registers.line_status.TheConstants.LSR
 use Rattle.uart_spec.specs.declared.registers.offsets.TheConstants as offsets
-use Rattle.uart_spec.specs.declared.setup.FifoSize.TheVariants.{Sixteen}
+use Rattle.uart_spec.specs.declared.setup.FifoSize.{FifoSize}
 use Rattle.uart_chip.specs.Transmitter.{room}
 use Rattle.uart_16550.specs.Driver.{Fields, settings_of}
 use Rattle.uart_16550.specs.Grammar.{Settings}
@@ -116,17 +116,18 @@ list_of (call.Write bytes) f after l a i h = blocks _ _ (writes_blocks (settings
 list_of (call.Text text) f after l a i h = text_list text.bytes (settings_of f) h.outcome l h.does.0
 list_of _ f after l a i h = absurd i
 
--- a driver that takes the FIFOs for 16 writes no more at once than fits into one of 16
-pub sixteen_at_once : (f : Fields) → f.size ≡ Sixteen → most_in (settings_of f) ≤ room f.fifo Sixteen
-sixteen_at_once f size = rw size (omega arith)
+-- a driver writes no more at once than fits, where the FIFOs are as large as it takes them to be
+pub fits_at_once : (f : Fields) → most_in (settings_of f) ≤ room f.fifo f.size
+fits_at_once f = omega arith
 
 -- and so is each list of a session, if it writes no more at once
-pub goes_list : (fifo : Bool) (most : ℕ) (l : List RegisterAccess) → most ≤ room fifo Sixteen → IsOfSession fifo most l →
-    AreTaken fifo l → Goes (KnowsAsTaken fifo) l (KnowsAsTaken fifo)
-goes_list fifo most l fits (blocks ws rs b) t = goes_in_blocks fifo most l ws rs fits b t
-goes_list fifo most l fits (check c) t = goes_check fifo l c t
-goes_list fifo most l fits (level value on v is) t =
-    let one : Goes (KnowsAsTaken true) (Write offsets.FCR value ∷ []) (KnowsAsTaken true) =
-    goes_one (KnowsAsTaken true) (KnowsAsTaken true) (Write offsets.FCR value) (stays_knows true) (stays_knows true) (sets_level value v) in
-    subst (λ (l : List RegisterAccess). Goes (KnowsAsTaken fifo) l (KnowsAsTaken fifo)) (sym is)
-    (subst (λ (b : Bool). Goes (KnowsAsTaken b) (Write offsets.FCR value ∷ []) (KnowsAsTaken b)) (sym on) one)
+pub goes_list : (size : FifoSize) (fifo : Bool) (most : ℕ) (l : List RegisterAccess) → most ≤ room fifo size → IsOfSession fifo most l →
+    AreTaken fifo l → Goes size (KnowsAsTaken fifo) l (KnowsAsTaken fifo)
+goes_list size fifo most l fits (blocks ws rs b) t = goes_in_blocks size fifo most l ws rs fits b t
+goes_list size fifo most l fits (check c) t = goes_check size fifo l c t
+goes_list size fifo most l fits (level value on v is) t =
+    let one : Goes size (KnowsAsTaken true) (Write offsets.FCR value ∷ []) (KnowsAsTaken true) =
+    goes_one size (KnowsAsTaken true) (KnowsAsTaken true) (Write offsets.FCR value) (stays_knows size true) (stays_knows size true)
+    (sets_level size value v) in
+    subst (λ (l : List RegisterAccess). Goes size (KnowsAsTaken fifo) l (KnowsAsTaken fifo)) (sym is)
+    (subst (λ (b : Bool). Goes size (KnowsAsTaken b) (Write offsets.FCR value ∷ []) (KnowsAsTaken b)) (sym on) one)

@@ -15,9 +15,7 @@ use Rattle.uart_chip.specs.Chip.{with_thr_pending, with_size, empty_queues, swit
 use Rattle.uart_chip.specs.Masks.{kept_mcr}
 use Rattle.uart_chip.specs.declared.receiver.Character.{Character}
 use Rattle.uart_chip.specs.Receiver.{ReceiverState, clear, take_front}
-use Rattle.uart_spec.specs.declared.setup.FifoSize.TheVariants.{Sixteen}
 use Rattle.uart_chip.specs.Transmitter.{TransmitterState, load, room}
-use Rattle.uart_chip.proofs.Sizes.{at_least_16}
 use Rattle.uart_judges.specs.Actions.{data_read, data_written, ier_read, ier_written, read_action, write_action}
 use Rattle.uart_judges.specs.Shows.{looks_at_line}
 use Rattle.uart_judges.specs.declared.audit.action.Action.{Action}
@@ -52,7 +50,7 @@ pub record MayMove (most : ℕ) (c d : ChipState) : Type 0 where
   pub lcr : d.latches.lcr ≡ c.latches.lcr
   pub mcr : d.latches.mcr ≡ c.latches.mcr
   pub fifo : d.fifo ≡ c.fifo
-  pub queued : min (length c.transmitter.queue) (room c.fifo Sixteen) ≤ length d.transmitter.queue
+  pub queued : min (length c.transmitter.queue) (room c.fifo c.transmitter.size) ≤ length d.transmitter.queue
   pub waiting : length c.receiver.queue ≤ length d.receiver.queue + most
   pub trigger : d.receiver.trigger ≡ c.receiver.trigger
 
@@ -199,7 +197,7 @@ may_read c true = record {
   lcr = refl;
   mcr = refl;
   fifo = refl;
-  queued = least_queued (length c.transmitter.queue) (room c.fifo Sixteen);
+  queued = least_queued (length c.transmitter.queue) (room c.fifo c.transmitter.size);
   waiting = omega arith;
   trigger = refl;
 }
@@ -208,7 +206,7 @@ may_read c false = record {
   lcr = refl;
   mcr = refl;
   fifo = refl;
-  queued = least_queued (length c.transmitter.queue) (room c.fifo Sixteen);
+  queued = least_queued (length c.transmitter.queue) (room c.fifo c.transmitter.size);
   waiting = one_taken c.receiver.queue c.receiver refl;
   trigger = taken_trigger c.receiver.queue c.receiver;
 }
@@ -252,16 +250,16 @@ does_read c n value o so is =
 
 -- a byte that is written is in the queue, or the queue is full
 pub loaded : (fifo : Bool) (byte : ℕ) (t : TransmitterState) →
-    (length (load fifo byte t).queue ≡ length t.queue + 1) ⊎ (room fifo Sixteen ≤ length (load fifo byte t).queue)
+    (length (load fifo byte t).queue ≡ length t.queue + 1) ⊎ (room fifo t.size ≤ length (load fifo byte t).queue)
 loaded fifo byte t = go (nat_lt (length t.queue) (room fifo t.size)) refl
   where
     full : (fifo : Bool) → nat_lt (length t.queue) (room fifo t.size) ≡ false →
-        room fifo Sixteen ≤ length (if fifo then t.queue else byte ∷ [])
-    full true e = let least = at_least_16 t.size in grind (arith, common_steps)
+        room fifo t.size ≤ length (if fifo then t.queue else byte ∷ [])
+    full true e = grind (arith, common_steps)
     full false e = omega arith
 
     go : (b : Bool) → nat_lt (length t.queue) (room fifo t.size) ≡ b →
-        (length (load fifo byte t).queue ≡ length t.queue + 1) ⊎ (room fifo Sixteen ≤ length (load fifo byte t).queue)
+        (length (load fifo byte t).queue ≡ length t.queue + 1) ⊎ (room fifo t.size ≤ length (load fifo byte t).queue)
     go true e = inl (rw e (length-append t.queue (byte ∷ [])))
     go false e = inr (rw e (full fifo e))
 
@@ -280,7 +278,7 @@ may_write c value true = record {
   lcr = refl;
   mcr = refl;
   fifo = refl;
-  queued = least_queued (length c.transmitter.queue) (room c.fifo Sixteen);
+  queued = least_queued (length c.transmitter.queue) (room c.fifo c.transmitter.size);
   waiting = omega arith;
   trigger = refl;
 }
@@ -289,7 +287,7 @@ may_write c value false = record {
   lcr = refl;
   mcr = refl;
   fifo = refl;
-  queued = none_left (length c.transmitter.queue) _ (room c.fifo Sixteen) (loaded c.fifo (cut_of c value) c.transmitter);
+  queued = none_left (length c.transmitter.queue) _ (room c.fifo c.transmitter.size) (loaded c.fifo (cut_of c value) c.transmitter);
   waiting = omega arith;
   trigger = refl;
 }

@@ -10,6 +10,7 @@ use Rattle.uart_spec.specs.declared.registers.interrupt_status.TheConstants.ISR 
 use Rattle.uart_spec.specs.declared.registers.line_control.TheConstants.LCR as lcr_bits
 use Rattle.uart_spec.specs.declared.registers.modem_control.MCR.{MCR}
 use Rattle.uart_spec.specs.declared.registers.modem_control.TheConstants.MCR as mcr_bits
+use Rattle.uart_spec.specs.declared.setup.FifoSize.{FifoSize}
 use Rattle.uart_spec.specs.declared.setup.FifoSize.TheVariants.{Sixteen}
 use Rattle.uart_chip.specs.Transmitter.{room as room_of}
 use Rattle.uart_judges.specs.Actions.{action}
@@ -34,19 +35,19 @@ use Rattle.uart_judges_runs.proofs.Spared.{Spared, SixSpared, all_spared, nothin
 
 -- ---- the six findings, as functions of the action
 
-pub record SixAt (a : Auditor) (s : Step) (x : Action) : Type 0 where
-  pub room : Spared (if not (sends x) then None
+pub record SixAt (size : FifoSize) (a : Auditor) (s : Step) (x : Action) : Type 0 where
+  pub room : Spared size (if not (sends x) then None
       else when (nat_le (depth s.setup.has_fifo) (sent_before a s))
       (found.SentBeyondRoom (min (sent_before a s + 1) (2 ^ 64 - 1)) (depth s.setup.has_fifo)))
-  pub output : Spared (put_out a s.setup x)
-  pub taken : Spared (if not (receives x) then None else taken_from (front a.unread) a)
-  pub latch : Spared (latched a s x)
-  pub change : Spared (changed a s x)
+  pub output : Spared size (put_out a s.setup x)
+  pub taken : Spared size (if not (receives x) then None else taken_from (front a.unread) a)
+  pub latch : Spared size (latched a s x)
+  pub change : Spared size (changed a s x)
   pub discard : action_empties fcr_bits.RX_FIFO_RESET.0 s.setup.has_fifo x ≡ false
 
-pub six_at : (a : Auditor) (s : Step) (x : Action) → s.action ≡ x → SixAt a s x → SixSpared a s
-six_at a s x is six =
-    let h = subst (λ (x : Action). SixAt a s x) (sym is) six in
+pub six_at : (size : FifoSize) (a : Auditor) (s : Step) (x : Action) → s.action ≡ x → SixAt size a s x → SixSpared size a s
+six_at size a s x is six =
+    let h = subst (λ (x : Action). SixAt size a s x) (sym is) six in
     record {
       room = h.room;
       output = h.output;
@@ -56,7 +57,7 @@ six_at a s x is six =
       discard = discarded (nat_lt 0 a.waiting && not (is_at_rest a s.setup)) _ h.discard;
     }
   where
-    discarded : (b c : Bool) → c ≡ false → Spared (when (b && c) found.WaitingDiscarded)
+    discarded : {size : FifoSize} → (b c : Bool) → c ≡ false → Spared size (when (b && c) found.WaitingDiscarded)
     discarded b c e = rw (and_right b c e) nothing
 
 -- ---- what changes nothing of a session
@@ -76,7 +77,7 @@ IsStill fifo (ReadsModem mcr) = has mcr.0 mcr_bits.LOOP_BACK.0 ≡ false
 IsStill fifo (IdentifiesInterrupt isr) = has isr.0 isr_bits.FIFOS_ENABLED.0 ≡ fifo
 IsStill fifo _ = Unit {0}
 
-still_at : (fifo : Bool) (a : Auditor) (s : Step) (x : Action) → IsStill fifo x → SixAt a s x
+still_at : {size : FifoSize} → (fifo : Bool) (a : Auditor) (s : Step) (x : Action) → IsStill fifo x → SixAt size a s x
 still_at fifo a s (Receives byte) i = absurd i
 still_at fifo a s (Sends byte) i = absurd i
 still_at fifo a s ReadsDivisor i = absurd i
@@ -137,19 +138,19 @@ knows_still fifo a s i k = record {
   room = still_room fifo a.setup.has_fifo s.action i k.room;
 }
 
-pub spared_still : (fifo : Bool) (a : Auditor) (s : Step) → IsStill fifo s.action → SixSpared a s
-spared_still fifo a s i = six_at a s s.action refl (still_at fifo a s s.action i)
+pub spared_still : {size : FifoSize} → (fifo : Bool) (a : Auditor) (s : Step) → IsStill fifo s.action → SixSpared size a s
+spared_still fifo a s i = six_at _ a s s.action refl (still_at fifo a s s.action i)
 
 -- an entry that is no access is still
 pub other_still : (fifo : Bool) (o : Option Bool) (h : Happening) → IsOther h → IsStill fifo (action o h)
 other_still fifo o (Access x) i = absurd i
 other_still fifo o _ i = tt
 
-pub stays_knows : (fifo : Bool) → Stays (KnowsAsTaken fifo)
-stays_knows fifo e i a k =
+pub stays_knows : (size : FifoSize) (fifo : Bool) → Stays size (KnowsAsTaken fifo)
+stays_knows size fifo e i a k =
     let s = step_from a e in
     let still : IsStill fifo s.action = other_still fifo a.setup.is_open e.happening i in
-    (all_spared a s (spared_still fifo a s still), knows_still fifo a s still k)
+    (all_spared size a s (spared_still fifo a s still), knows_still fifo a s still k)
 
 -- ---- while bytes are sent
 
@@ -171,11 +172,11 @@ sending_still fifo k a s i w = record {
   sent = count_still a.sent k (shows_room s) (sends s.action) (still_sends fifo s.action i) w.sent;
 }
 
-pub stays_sending : (fifo : Bool) (k : ℕ) → Stays (Sending fifo k)
-stays_sending fifo k e i a w =
+pub stays_sending : (size : FifoSize) (fifo : Bool) (k : ℕ) → Stays size (Sending fifo k)
+stays_sending size fifo k e i a w =
     let s = step_from a e in
     let still : IsStill fifo s.action = other_still fifo a.setup.is_open e.happening i in
-    (all_spared a s (spared_still fifo a s still), sending_still fifo k a s still w)
+    (all_spared size a s (spared_still fifo a s still), sending_still fifo k a s still w)
 
 -- ---- while a byte is read
 
@@ -203,11 +204,11 @@ other_waits o n s (Arrive byte errors) i p = still_waits _ _ _ (one_more n s.set
 other_waits o n s (Interrupt is_raised) i p = p
 other_waits o n s (Lines inputs) i p = p
 
-pub stays_reading : (fifo : Bool) → Stays (Reading fifo)
-stays_reading fifo e i a w =
+pub stays_reading : (size : FifoSize) (fifo : Bool) → Stays size (Reading fifo)
+stays_reading size fifo e i a w =
     let s = step_from a e in
     let still : IsStill fifo s.action = other_still fifo a.setup.is_open e.happening i in (
-      all_spared a s (spared_still fifo a s still),
+      all_spared size a s (spared_still fifo a s still),
       record {
         knows = knows_still fifo a s still w.knows;
         looked = still_looked fifo a.setup.is_open s.action still w.looked;
@@ -241,12 +242,12 @@ other_latch o a (Access x) i p q = absurd i
 other_latch o a _ i p q =
     record { looked = since_none a.latch.has_looked false false p refl; low = since_none a.latch.has_low false false q refl }
 
-pub stays_opened : (fifo : Bool) → Stays (Opened fifo)
-stays_opened fifo e i a w =
+pub stays_opened : (size : FifoSize) (fifo : Bool) → Stays size (Opened fifo)
+stays_opened size fifo e i a w =
     let s = step_from a e in
     let still : IsStill fifo s.action = other_still fifo a.setup.is_open e.happening i in
     let kept = other_latch a.setup.is_open a e.happening i w.not_looked w.not_low in (
-      all_spared a s (spared_still fifo a s still),
+      all_spared size a s (spared_still fifo a s still),
       record {
         opened = other_open a.setup.is_open e.happening i ∙ w.opened;
         loopback = still_loop fifo a.setup.modem s.action still w.loopback;

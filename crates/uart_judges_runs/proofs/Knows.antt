@@ -22,13 +22,13 @@ use Rattle.uart_chip.specs.declared.receiver.Character.{Character}
 use Rattle.uart_chip.specs.Chip.{ChipState, interrupt, is_dlab_set, is_loopback, is_same, line_status, trigger_level}
 use Rattle.uart_chip.proofs.McrBits.{kept_bit}
 use Rattle.uart_chip.specs.Receiver.{ReceiverState, characters_of, is_data_pending, is_timed_out, take_front}
+use Rattle.uart_spec.specs.declared.setup.FifoSize.{FifoSize}
 use Rattle.uart_spec.specs.declared.setup.FifoSize.TheVariants.{Sixteen}
 use Rattle.uart_chip.specs.Transmitter.{room}
-use Rattle.uart_chip.proofs.Sizes.{level_least, some_characters}
+use Rattle.uart_chip.proofs.Sizes.{level_least, some_characters, some_room}
 use Rattle.uart_chip.proofs.Bits.{has_one}
 use Rattle.uart_chip.proofs.FifoBits.{isr_of, all_shown}
 use Rattle.uart_chip.proofs.statuses.Status.{status_data}
-use Rattle.uart_run.proofs.CallKeeps.{one_fits}
 use Rattle.uart_run.proofs.initialising.FifoShown.{shows_64}
 use Rattle.uart_judges.specs.History.{level, next, next_count, shown_by, waiting_after}
 use Rattle.uart_judges.specs.Setups.{next_is_open, or_closed}
@@ -349,15 +349,15 @@ after_waiting n c d s _ is h f k w = as_long n _ _ h.0.waiting w
 -- ---- the bytes that were sent
 
 abbrev pub IsSent : (n left : ℕ) → ChipState → Type 0
-IsSent n left c = min n (room c.fifo Sixteen) ≤ length c.transmitter.queue + left
+IsSent n left c = min n (room c.fifo c.transmitter.size) ≤ length c.transmitter.queue + left
 
 pub none_sent : (space waiting : ℕ) → min 0 space ≤ waiting
 none_sent space waiting = omega arith
 
-still_sent : (n left : ℕ) (rests : Bool) (c d : ChipState) → d.fifo ≡ c.fifo → d.transmitter.queue ≡ c.transmitter.queue →
-    IsSent n left c → IsSent (next_count n rests false) (if rests then 0 else left) d
-still_sent n left true c d e f h = none_sent (room d.fifo Sixteen) (length d.transmitter.queue + 0)
-still_sent n left false c d e f h = rw (e, f) h
+still_sent : (n left : ℕ) (rests : Bool) (c d : ChipState) → d.transmitter.size ≡ c.transmitter.size → d.fifo ≡ c.fifo →
+    d.transmitter.queue ≡ c.transmitter.queue → IsSent n left c → IsSent (next_count n rests false) (if rests then 0 else left) d
+still_sent n left true c d z e f h = none_sent (room d.fifo d.transmitter.size) (length d.transmitter.queue + 0)
+still_sent n left false c d z e f h = rw (z, e, f) h
 
 one_sent : (n left before after space : ℕ) (rests : Bool) → (after ≡ before + 1) ⊎ (space ≤ after) → 1 ≤ space →
     min n space ≤ before + left → min (next_count n rests true) space ≤ after + (if rests then 0 else left)
@@ -367,21 +367,25 @@ one_sent n left before after space false (inl e) one h = omega (arith, e, h)
 one_sent n left before after space false (inr e) one h = omega (arith, e)
 
 -- FCR is written
-controlled_sent : (n left : ℕ) (rests cleared on same reset : Bool) (c d : ChipState) → (rests ≡ false → cleared ≡ false) →
+controlled_sent : (n left : ℕ) (rests cleared on same reset : Bool) (c d : ChipState) → d.transmitter.size ≡ c.transmitter.size →
+    (rests ≡ false → cleared ≡ false) →
     cleared ≡ (not same || (on && reset)) → same ≡ is_same c.fifo on → d.fifo ≡ on →
     d.transmitter.queue ≡ (if cleared then [] else c.transmitter.queue) → IsSent n left c →
     IsSent (next_count n rests false) (if rests then 0 else left) d
-controlled_sent n left true cleared on same reset c d f e i fifo queue h = none_sent (room d.fifo Sixteen) (length d.transmitter.queue + 0)
-controlled_sent n left false true on same reset c d f e i fifo queue h = absurd (let g : true ≡ false = f refl in cc)
-controlled_sent n left false false on true reset c d f e i fifo queue h =
-    still_sent n left false c d (fifo ∙ sym (same_true c.fifo on (sym i))) queue h
-controlled_sent n left false false on false reset c d f e i fifo queue h = absurd (cc)
+controlled_sent n left true cleared on same reset c d z f e i fifo queue h =
+    none_sent (room d.fifo d.transmitter.size) (length d.transmitter.queue + 0)
+controlled_sent n left false true on same reset c d z f e i fifo queue h = absurd (let g : true ≡ false = f refl in cc)
+controlled_sent n left false false on true reset c d z f e i fifo queue h =
+    still_sent n left false c d z (fifo ∙ sym (same_true c.fifo on (sym i))) queue h
+controlled_sent n left false false on false reset c d z f e i fifo queue h = absurd (cc)
 
 -- a byte may have been sent, or taken
-maybe_sent : (n left : ℕ) (rests : Bool) (most : ℕ) (c d : ChipState) → MayMove most c d → IsSent n left c →
+maybe_sent : (n left : ℕ) (rests : Bool) (most : ℕ) (c d : ChipState) → d.transmitter.size ≡ c.transmitter.size → MayMove most c d →
+    IsSent n left c →
     IsSent (next_count n rests false) (if rests then 0 else left) d
-maybe_sent n left true most c d h w = none_sent (room d.fifo Sixteen) (length d.transmitter.queue + 0)
-maybe_sent n left false most c d h w = rw h.fifo (as_many n left (length c.transmitter.queue) _ (room c.fifo Sixteen) h.queued w)
+maybe_sent n left true most c d z h w = none_sent (room d.fifo d.transmitter.size) (length d.transmitter.queue + 0)
+maybe_sent n left false most c d z h w =
+    rw (z, h.fifo) (as_many n left (length c.transmitter.queue) _ (room c.fifo c.transmitter.size) h.queued w)
   where
     as_many : (n left before after space : ℕ) → min before space ≤ after → min n space ≤ before + left → min n space ≤ after + left
     as_many n left before after space p q = omega (arith, p, q)
@@ -391,29 +395,33 @@ room_shown true b c e = absurd (cc)
 room_shown false true c e = absurd (cc)
 room_shown false false c e = e
 
-pub after_sent : (n left : ℕ) (c d : ChipState) (s : Step) (x : Action) → s.action ≡ x → Does x c d →
+pub after_sent : (n left : ℕ) (c d : ChipState) (s : Step) (x : Action) → d.transmitter.size ≡ c.transmitter.size → s.action ≡ x →
+    Does x c d →
     IsSo s.setup.has_fifo (λ on. c.fifo ≡ on) → IsSent n left c →
     IsSent (next_count n (shows_room s) (sends x)) (if shows_room s then 0 else left) d
-after_sent n left c d s (Sends byte) is h f w =
-    subst (λ (d : ChipState). IsSent (next_count n (shows_room s) true) (if shows_room s then 0 else left) d) (sym h)
-    (one_sent n left (length c.transmitter.queue) _ (room c.fifo Sixteen) (shows_room s) (loaded c.fifo _ c.transmitter)
-    (one_fits c.fifo) w)
-after_sent n left c d s (Receives byte) is h f w =
-    still_sent n left (shows_room s) c d (ap (λ (c : ChipState). c.fifo) h) (ap (λ (c : ChipState). c.transmitter.queue) h) w
-after_sent n left c d s (ControlsFifo fcr) is h f w =
+after_sent n left c d s (Sends byte) z is h f w =
+    let count = next_count n (shows_room s) true in
+    let gone = if shows_room s then 0 else left in
+    subst (λ (size : FifoSize). min count (room d.fifo size) ≤ length d.transmitter.queue + gone) (sym z)
+    (subst (λ (d : ChipState). min count (room d.fifo c.transmitter.size) ≤ length d.transmitter.queue + gone) (sym h)
+    (one_sent n left (length c.transmitter.queue) _ (room c.fifo c.transmitter.size) (shows_room s) (loaded c.fifo _ c.transmitter)
+    (some_room c.fifo c.transmitter.size) w))
+after_sent n left c d s (Receives byte) z is h f w =
+    still_sent n left (shows_room s) c d z (ap (λ (c : ChipState). c.fifo) h) (ap (λ (c : ChipState). c.transmitter.queue) h) w
+after_sent n left c d s (ControlsFifo fcr) z is h f w =
     controlled_sent n left (shows_room s) (clears fcr_bits.TX_FIFO_RESET.0 fcr.0 c) (has_any fcr.0 fcr_bits.FIFO_ENABLE.0)
-    (is_same c.fifo (has_any fcr.0 fcr_bits.FIFO_ENABLE.0)) (has_any fcr.0 fcr_bits.TX_FIFO_RESET.0) c d
+    (is_same c.fifo (has_any fcr.0 fcr_bits.FIFO_ENABLE.0)) (has_any fcr.0 fcr_bits.TX_FIFO_RESET.0) c d z
     (λ e. not_cleared 2 s.setup.has_fifo fcr c f
     (sym (may_empty_is fcr_bits.TX_FIFO_RESET.0 s fcr is) ∙ room_shown s.has_rested (shows_thr_empty s.action) _ e)) refl refl h.fifo
     h.queued w
-after_sent n left c d s (SetsLine lcr) is h f w =
-    still_sent n left (shows_room s) c d (ap (λ (c : ChipState). c.fifo) h) (ap (λ (c : ChipState). c.transmitter.queue) h) w
-after_sent n left c d s (SetsModem mcr) is h f w =
-    still_sent n left (shows_room s) c d (ap (λ (c : ChipState). c.fifo) h) (ap (λ (c : ChipState). c.transmitter.queue) h) w
-after_sent n left c d s MayReceive is h f w = maybe_sent n left (shows_room s) 1 c d h w
-after_sent n left c d s MaySend is h f w = maybe_sent n left (shows_room s) 0 c d h w
-after_sent n left c d s (Arrives byte errors) is h f w = absurd h
-after_sent n left c d s _ is h f w = still_sent n left (shows_room s) c d h.0.fifo h.0.queued w
+after_sent n left c d s (SetsLine lcr) z is h f w =
+    still_sent n left (shows_room s) c d z (ap (λ (c : ChipState). c.fifo) h) (ap (λ (c : ChipState). c.transmitter.queue) h) w
+after_sent n left c d s (SetsModem mcr) z is h f w =
+    still_sent n left (shows_room s) c d z (ap (λ (c : ChipState). c.fifo) h) (ap (λ (c : ChipState). c.transmitter.queue) h) w
+after_sent n left c d s MayReceive z is h f w = maybe_sent n left (shows_room s) 1 c d z h w
+after_sent n left c d s MaySend z is h f w = maybe_sent n left (shows_room s) 0 c d z h w
+after_sent n left c d s (Arrives byte errors) z is h f w = absurd h
+after_sent n left c d s _ z is h f w = still_sent n left (shows_room s) c d z h.0.fifo h.0.queued w
 
 -- ---- all of it
 
@@ -429,9 +437,10 @@ after_model c d (Arrives byte errors) h = absurd h
 after_model c d _ h = h.0.model
 
 -- what is known after an action is so, if what is known before it is
-pub after_all : (a : Auditor) (left : ℕ) (c d : ChipState) (s : Step) (x : Action) → s.action ≡ x → s.setup ≡ a.setup → Does x c d →
+pub after_all : (a : Auditor) (left : ℕ) (c d : ChipState) (s : Step) (x : Action) → d.transmitter.size ≡ c.transmitter.size →
+    s.action ≡ x → s.setup ≡ a.setup → Does x c d →
     IsOffAtLook a.setup.is_open x c → KnowsWhatIs a left c → KnowsWhatIs (next a s) (if shows_room s then 0 else left) d
-after_all a left c d s x is same h off k = record {
+after_all a left c d s x z is same h off k = record {
   model = after_model c d x h ∙ k.model;
   dlab =
       subst (λ (x : Action). IsSo (next_is_open a.setup.is_open x) (λ on. is_dlab_set d.latches ≡ on)) (sym is)
@@ -450,7 +459,7 @@ after_all a left c d s x is same h off k = record {
       (after_waiting a.waiting c d s x is h fifos_now trigger_now k.waiting);
   sent =
       subst (λ (x : Action). IsSent (next_count a.sent (shows_room s) (sends x)) (if shows_room s then 0 else left) d) (sym is)
-      (after_sent a.sent left c d s x is h fifos_now k.sent);
+      (after_sent a.sent left c d s x z is h fifos_now k.sent);
 }
   where
     fifos_now : IsSo s.setup.has_fifo (λ on. c.fifo ≡ on)

@@ -1,6 +1,6 @@
 -- Each finding that says that a byte is lost names an access that loses it.
 use Rattle.std.proofs.Common.{◌≡◌, ◌≤◌, ◌<◌, ℕ, ◌+◌, ◌-◌, ◌^◌, Bool, true, false, not, ◌&&◌, ◌||◌, ◌==◌, List, [], ◌∷◌, length, min, nat_lt}
-use Rattle.std.proofs.Common.{◌++◌, inl, inr, Option, Some, None, refl, sym, ◌∙◌, ap, subst, arith, if◌then◌else◌}
+use Rattle.std.proofs.Common.{◌++◌, ◌⊎◌, inl, inr, Option, Some, None, refl, sym, ◌∙◌, ap, subst, arith, if◌then◌else◌}
 use Rattle.std.specs.Prelude.{nat_le}
 use Rattle.std.proofs.lemmas.Grind.{common_steps}
 use Rattle.std.proofs.lemmas.Bool.{and_parts, leb-true}
@@ -15,16 +15,20 @@ use Rattle.uart_spec.specs.declared.registers.line_status.LSR.{LSR}
 use Rattle.uart_spec.specs.declared.registers.modem_control.MCR.{MCR}
 use Rattle.uart_spec.specs.declared.registers.interrupt_type.InterruptType.{InterruptType}
 use Rattle.uart_spec.specs.declared.registers.interrupt_type.InterruptType.TheVariants.{ReceptionTimeout}
-use Rattle.uart_chip.specs.Chip.{ChipState, cut_of, is_dlab_set, is_loopback, is_held_off, is_switching}
+use Rattle.uart_chip.specs.Chip.{ChipState, cut_of, is_dlab_set, is_loopback, is_switching}
 use Rattle.uart_chip.specs.Machine.{MachineState, MachineStep, at_access}
-use Rattle.uart_chip.specs.Switching.{lcr_after, may_switch, NeverSwitches}
+use Rattle.uart_chip.specs.Switching.{SameSizes, lcr_after, may_switch, NeverSwitches}
 use Rattle.uart_chip.specs.Sound.{IsSound}
+use Rattle.uart_spec.specs.FifoSize.{characters}
+use Rattle.uart_spec.specs.declared.baud.TheConstants.{FIFO_SIZE}
+use Rattle.uart_spec.specs.declared.setup.FifoSize.{FifoSize}
 use Rattle.uart_spec.specs.declared.setup.FifoSize.TheVariants.{Sixteen}
 use Rattle.uart_chip.specs.Transmitter.{TransmitterState, load, room as room_of}
 use Rattle.uart_chip.proofs.Switching.{closed-keeps, lacking-keeps}
-use Rattle.uart_chip.proofs.lasting.FifoSizes.{same_size, same_size-lacking, switch-step}
+use Rattle.uart_chip.proofs.Sizes.{at_most_256, some_room}
+use Rattle.uart_chip.proofs.lasting.FifoSizes.{same_size, same_size-access, same_size-lacking, switch-step}
 use Rattle.uart_chip.proofs.lasting.Lasting.{LastsInEvents, chip_lasts-before}
-use Rattle.uart_chip.proofs.soundness.Sounds.{size-tick, sound_access, sound_step}
+use Rattle.uart_chip.proofs.soundness.Sounds.{sound_access, sound_step}
 use Rattle.uart_run.proofs.Latches.{Kept, kept_in, keep, keep_control, kept_access, kept_step}
 use Rattle.uart_judges.specs.Setups.{next_is_open}
 use Rattle.uart_judges.specs.Actions.{action, read_action, write_action}
@@ -50,11 +54,11 @@ use Rattle.uart_judges.specs.declared.recording.entry.Happening.{Happening}
 use Rattle.uart_judges.specs.declared.recording.entry.Happening.TheVariants.{Access, Arrive, Interrupt, Lines}
 use Rattle.uart_judges_runs.specs.Lost.{AllLose, Follows, IsDropped, IsNextArrival, IsRight, IsSo, KnowsDlab, KnowsWhatIs, Loses, LosesIf}
 use Rattle.uart_judges_runs.specs.Lost.{LeaveSize, left_after, left_at}
-use Rattle.uart_judges_runs.specs.Recorded.{access_in, accesses_in, is_of_calls}
+use Rattle.uart_judges_runs.specs.Recorded.{access_in, accesses_in, is_of_calls, some_such, told}
 use Rattle.uart_judges_runs.proofs.Arrived.{after_arrival, lasts_events, sound_arrival}
 use Rattle.uart_judges_runs.proofs.Does.{Does, alike_refl, by_offset, does_read, does_write, no_write_looks, off_at_look}
 use Rattle.uart_judges_runs.proofs.Knows.{IsLooping, IsOffAtLook, IsSent, after_all, after_dlab, is_cleared}
-use Rattle.uart_judges_runs.proofs.Spared.{Spared, all_others}
+use Rattle.uart_judges_runs.proofs.Spared.{OthersSpared, Spared, all_others}
 use Rattle.uart_judges_runs.proofs.Waits.{at_the_access}
 use Rattle.uart_judges_runs.proofs.Wire.{stays_inside}
 
@@ -67,15 +71,22 @@ module _ (a : Auditor) (left : ℕ) (c : ChipState) (n : MachineState) where
   none_lost = record { is = tt }
 
   -- a finding that says of no byte that it is lost
-  free : (f : Finding) → is_of_calls f ≡ false → Loses f a left c n
-  free (found.SentBeyondRoom sent space) e = absurd (cc)
+  -- a judge that was told 16 tells of each byte beyond the room
+  told_each : (other fits : Bool) (sent x y : ℕ) →
+      some_such is_of_calls
+      (if other then Some (found.SentBeyondRoom sent x) else if false && fits then None else Some (found.SentBeyondRoom sent y)) ≡ false → ⊥
+  told_each true fits sent x y e = absurd (cc)
+  told_each false fits sent x y e = absurd (cc)
+
+  free : (f : Finding) → told 16 is_of_calls f ≡ false → LosesIf (Some f) a left c n
+  free (found.SentBeyondRoom sent space) e = absurd (told_each (not (space == FIFO_SIZE)) (nat_le sent 16) sent space _ e)
   free (found.SentIntoLatch byte) e = absurd (cc)
   free (found.SentInLoopback byte) e = absurd (cc)
   free found.ResetWhileSending e = absurd (cc)
   free found.WaitingDiscarded e = absurd (cc)
   free _ e = tt
 
-  free_if : (o : Option Finding) → Spared o → Lost o
+  free_if : (o : Option Finding) → Spared Sixteen o → Lost o
   free_if None s = none_lost
   free_if (Some f) s = record { is = free f s.is }
 
@@ -83,7 +94,7 @@ module _ (a : Auditor) (left : ℕ) (c : ChipState) (n : MachineState) where
   lost_if true x y p q = p refl
   lost_if false x y p q = q refl
 
-  lost_when : (b : Bool) (f : Finding) → (b ≡ true → Loses f a left c n) → Lost (when b f)
+  lost_when : (b : Bool) (f : Finding) → (b ≡ true → LosesIf (Some f) a left c n) → Lost (when b f)
   lost_when true f p = record { is = p refl }
   lost_when false f p = none_lost
 
@@ -96,30 +107,53 @@ positive n e = let h : 0 < n = grind (arith, common_steps) in omega (arith, h)
 
 -- ---- a byte beyond the room
 
-room_known : (o : Option Bool) (on : Bool) → IsSo o (λ b. on ≡ b) → room_of on Sixteen ≤ depth o
-room_known None true so = omega arith
-room_known None false so = omega arith
-room_known (Some true) true so = omega arith
-room_known (Some true) false so = absurd (cc)
-room_known (Some false) true so = absurd (cc)
-room_known (Some false) false so = omega arith
-
 some_depth : (o : Option Bool) → 1 ≤ depth o
 some_depth (Some true) = omega arith
 some_depth _ = omega arith
 
--- a byte has gone by time, or it counts
-counted_sent : (rested : Bool) (sent least : ℕ) → 1 ≤ least → least ≤ (if rested then 0 else sent) → least ≤ sent
-counted_sent true sent least one h = absurd (omega (arith, one, h))
-counted_sent false sent least one h = h
+-- as many were sent as the FIFO has room for, where the judge tells of it: without FIFOs
+enough_without : (o : Option Bool) (on : Bool) (size : FifoSize) (sent : ℕ) → IsSo o (λ b. on ≡ b) → not (depth o == FIFO_SIZE) ≡ true →
+    depth o ≤ sent → room_of on size ≤ sent
+enough_without None on size sent so e most = absurd (cc)
+enough_without (Some true) on size sent so e most = absurd (cc)
+enough_without (Some false) true size sent so e most = absurd (cc)
+enough_without (Some false) false size sent so e most = most
 
-is_full : (space most sent queued left : ℕ) → space ≤ most → most ≤ sent → min sent space ≤ queued + left → space ≤ queued + left
-is_full space most sent queued left p q h = omega (arith, p, q, h)
+either_off : (a b : Bool) → (a && b) ≡ false → (a ≡ false) ⊎ (b ≡ false)
+either_off true b e = inr e
+either_off false b e = inl refl
 
-same_length : (fifo : Bool) (byte : ℕ) (queue : List ℕ) → room_of fifo Sixteen ≤ length queue → length queue ≤ room_of fifo Sixteen →
-    length (if fifo then queue else byte ∷ []) ≡ length queue
-same_length true byte queue p q = refl
-same_length false byte queue p q = one (length queue) p q
+-- and with FIFOs, of which the judge was told this size
+more_than_told : (space sent : ℕ) → 16 ≤ sent → space ≤ 256 →
+    (nat_lt 16 space ≡ false) ⊎ (nat_le (min (sent + 1) (2 ^ 64 - 1)) space ≡ false) → space ≤ sent
+more_than_told space sent most small (inl e) = let h = no_more 16 space e in omega (arith, h, most)
+  where
+    no_more : (a b : ℕ) → nat_lt a b ≡ false → b ≤ a
+    no_more a b e = grind (arith, common_steps)
+more_than_told space sent most small (inr e) = let h = more (min (sent + 1) (2 ^ 64 - 1)) space e in omega (arith, h)
+  where
+    more : (a b : ℕ) → nat_le a b ≡ false → b < a
+    more a b e = grind (arith, common_steps)
+
+enough_with : (o : Option Bool) (on : Bool) (size : FifoSize) (sent : ℕ) → IsSo o (λ b. on ≡ b) →
+    (nat_lt FIFO_SIZE (characters size) && nat_le (min (sent + 1) (2 ^ 64 - 1)) (characters size)) ≡ false →
+    depth o ≤ sent → room_of on size ≤ sent
+enough_with None true size sent so e most = more_than_told (characters size) sent most (at_most_256 size) (either_off _ _ e)
+enough_with (Some true) true size sent so e most = more_than_told (characters size) sent most (at_most_256 size) (either_off _ _ e)
+enough_with (Some false) true size sent so e most = absurd (cc)
+enough_with o false size sent so e most = let one = some_depth o in omega (arith, one, most)
+
+is_full : (space before sent queued left : ℕ) → space ≤ before → before ≤ sent → min sent space ≤ queued + left → space ≤ queued + left
+is_full space before sent queued left p q h = omega (arith, p, q, h)
+
+counts : (rested : Bool) (sent : ℕ) → (if rested then 0 else sent) ≤ sent
+counts true sent = omega arith
+counts false sent = omega arith
+
+same_length : (fifo : Bool) (size : FifoSize) (byte : ℕ) (queue : List ℕ) → room_of fifo size ≤ length queue →
+    length queue ≤ room_of fifo size → length (if fifo then queue else byte ∷ []) ≡ length queue
+same_length true size byte queue p q = refl
+same_length false size byte queue p q = one (length queue) p q
   where
     one : (n : ℕ) → 1 ≤ n → n ≤ 1 → 1 ≡ n
     one n p q = omega (arith, p, q)
@@ -131,17 +165,16 @@ same_queue false byte queue e = absurd (cc)
 not_less : (n m : ℕ) → m ≤ n → nat_lt n m ≡ false
 not_less n m h = grind (arith, common_steps)
 
--- what the queue holds fits into one of 16
+-- what the queue holds fits into it
 abbrev pub Fits : ChipState → Type 0
-Fits c = (c.transmitter.size ≡ Sixteen) × (length c.transmitter.queue ≤ room_of c.fifo Sixteen)
+Fits c = length c.transmitter.queue ≤ room_of c.fifo c.transmitter.size
 
-dropped : (c : ChipState) (byte : ℕ) → Fits c → room_of c.fifo Sixteen ≤ length c.transmitter.queue →
+dropped : (c : ChipState) (byte : ℕ) → Fits c → room_of c.fifo c.transmitter.size ≤ length c.transmitter.queue →
     IsDropped c (record c { transmitter = load c.fifo byte c.transmitter })
 dropped c byte fits full =
-    let here : room_of c.fifo c.transmitter.size ≤ length c.transmitter.queue = rw fits.0 full in
-    rw (not_less (length c.transmitter.queue) (room_of c.fifo c.transmitter.size) here) (record {
+    rw (not_less (length c.transmitter.queue) (room_of c.fifo c.transmitter.size) full) (record {
       counted = refl;
-      no_more = same_length c.fifo byte c.transmitter.queue full fits.1;
+      no_more = same_length c.fifo c.transmitter.size byte c.transmitter.queue full fits;
       with_fifo = λ on. same_queue c.fifo byte c.transmitter.queue on;
     })
 
@@ -153,17 +186,31 @@ module _ (a : Auditor) (left : ℕ) (c : ChipState) (n : MachineState) (s : Step
   fifos : IsSo s.setup.has_fifo (λ on. c.fifo ≡ on)
   fifos = subst (λ (setup : Setup). IsSo setup.has_fifo (λ on. c.fifo ≡ on)) (sym same) k.fifos
 
-  beyond : (byte : ℕ) → Does (Sends byte) c n.chip → nat_le (depth s.setup.has_fifo) (sent_before a s) ≡ true →
-      (room_of c.fifo Sixteen ≤ length c.transmitter.queue + left) × (left ≡ 0 → IsDropped c n.chip)
-  beyond byte h e =
-      let most : depth s.setup.has_fifo ≤ a.sent =
-      counted_sent s.has_rested a.sent (depth s.setup.has_fifo) (some_depth s.setup.has_fifo) (leb-true _ (sent_before a s) e) in
-      let full : room_of c.fifo Sixteen ≤ length c.transmitter.queue + left =
-      is_full (room_of c.fifo Sixteen) (depth s.setup.has_fifo) a.sent _ left (room_known s.setup.has_fifo c.fifo fifos) most k.sent in (
+  full_then_dropped : (byte : ℕ) → Does (Sends byte) c n.chip → room_of c.fifo c.transmitter.size ≤ sent_before a s →
+      (room_of c.fifo c.transmitter.size ≤ length c.transmitter.queue + left) × (left ≡ 0 → IsDropped c n.chip)
+  full_then_dropped byte h enough =
+      let full : room_of c.fifo c.transmitter.size ≤ length c.transmitter.queue + left =
+      is_full (room_of c.fifo c.transmitter.size) (sent_before a s) a.sent _ left enough (counts s.has_rested a.sent) k.sent in (
         full,
         λ none. subst (λ (d : ChipState). IsDropped c d) (sym h)
-            (dropped c (cut_of c byte) fits (no_bytes_left (room_of c.fifo Sixteen) (length c.transmitter.queue) left full none)),
+            (dropped c (cut_of c byte) fits
+            (no_bytes_left (room_of c.fifo c.transmitter.size) (length c.transmitter.queue) left full none)),
       )
+
+  -- where it is told of, by what was compared
+  told_or_fits : (P : Finding → Type 0) (other fits : Bool) (x y : Finding) → (other ≡ true → P x) → (fits ≡ false → P y) →
+      IsSo (if other then Some x else if fits then None else Some y) P
+  told_or_fits P true fits x y p q = p refl
+  told_or_fits P false true x y p q = tt
+  told_or_fits P false false x y p q = q refl
+
+  beyond : (byte : ℕ) → Does (Sends byte) c n.chip → nat_le (depth s.setup.has_fifo) (sent_before a s) ≡ true →
+      LosesIf (Some (found.SentBeyondRoom (min (sent_before a s + 1) (2 ^ 64 - 1)) (depth s.setup.has_fifo))) a left c n
+  beyond byte h e =
+      let most : depth s.setup.has_fifo ≤ sent_before a s = leb-true _ (sent_before a s) e in
+      told_or_fits (λ f. Loses f a left c n) (not (depth s.setup.has_fifo == FIFO_SIZE)) _ _ _
+      (λ other. full_then_dropped byte h (enough_without s.setup.has_fifo c.fifo c.transmitter.size (sent_before a s) fifos other most))
+      (λ more. full_then_dropped byte h (enough_with s.setup.has_fifo c.fifo c.transmitter.size (sent_before a s) fifos more most))
 
   room_lost : (x : Action) → Does x c n.chip → Lost a left c n
       (if not (sends x) then None
@@ -227,19 +274,13 @@ module _ (a : Auditor) (left : ℕ) (c : ChipState) (n : MachineState) (s : Step
       (nat_lt 0 a.sent && action_empties fcr_bits.TX_FIFO_RESET.0 s.setup.has_fifo (ControlsFifo fcr)) ≡ true →
       Loses found.ResetWhileSending a left c n
   reset fcr h e = (
-    one (length c.transmitter.queue) (room_of c.fifo Sixteen) a.sent (positive a.sent (and_parts _ _ e).0) some_room k.sent,
+    one (length c.transmitter.queue) (room_of c.fifo c.transmitter.size) a.sent (positive a.sent (and_parts _ _ e).0)
+        (some_room c.fifo c.transmitter.size) k.sent,
     queue_gone c.transmitter.queue n.chip.transmitter.queue _ (is_cleared 2 s.setup.has_fifo fcr c fifos (and_parts _ _ e).1) h.queued,
   )
     where
       one : (queued space sent : ℕ) → 1 ≤ sent → 1 ≤ space → min sent space ≤ queued + left → 1 ≤ queued + left
       one queued space sent p q h = omega (arith, p, q, h)
-
-      some_room : 1 ≤ room_of c.fifo Sixteen
-      some_room = some c.fifo
-        where
-          some : (fifo : Bool) → 1 ≤ room_of fifo Sixteen
-          some true = omega arith
-          some false = omega arith
 
   changed_lost : (x : Action) → s.action ≡ x → Does x c n.chip → Lost a left c n (changed a s x)
   changed_lost (SetsLine lcr) is h = lost_when a left c n (is_other_frame s.setup.line lcr) found.FrameChangedWhileSending (λ _. tt)
@@ -302,8 +343,8 @@ module _ (a : Auditor) (left : ℕ) (c : ChipState) (n : MachineState) where
 
   all_lost : (s : Step) → FiveLost s → AllLose (all_found a s) a left c n
   all_lost s five =
-      let others = all_others a s in
-      let is : (o : Option Finding) → Spared o → LosesIf o a left c n = λ o p. (free_if a left c n o p).is in (
+      let others : OthersSpared Sixteen a s = all_others a s in
+      let is : (o : Option Finding) → Spared Sixteen o → LosesIf o a left c n = λ o p. (free_if a left c n o p).is in (
         is _ others.note,
         (
           five.room.is,
@@ -446,25 +487,15 @@ quiet_lost a left c n s x is quiet =
 
 -- ---- a recording
 
--- the FIFO of the transmitter has room for 16
-abbrev pub Holds16 : ChipState → Type 0
-Holds16 c = c.transmitter.size ≡ Sixteen
+-- the size stays
+step_size : (m n : MachineState) (access : RegisterAccess) (rest : List RegisterAccess) → LeaveSize m (access ∷ rest) →
+    MachineStep m access n → SameSizes m.chip n.chip
+step_size m n access rest (inl lacks) step = same_size-lacking (access ∷ []) m n lacks (n, step, refl)
+step_size m n access rest (inr never) step = same_size (access ∷ []) m n (never.0, tt) (n, step, refl)
 
-holds_16 : LastsInEvents Holds16
-holds_16 = record {
-  in_tick = λ c e. size-tick (is_loopback c.latches) (is_held_off c) c.transmitter ∙ e;
-  in_arrival = λ byte errors c e. e;
-  in_lines = λ inputs c e. e;
-}
-
-step_16 : (m n : MachineState) (access : RegisterAccess) (rest : List RegisterAccess) → LeaveSize m (access ∷ rest) → Holds16 m.chip →
-    MachineStep m access n → Holds16 n.chip
-step_16 m n access rest (inl lacks) e step = (same_size-lacking (access ∷ []) m n lacks (n, step, refl)).transmitter ∙ e
-step_16 m n access rest (inr never) e step = (same_size (access ∷ []) m n (never.0, tt) (n, step, refl)).transmitter ∙ e
-
-arrival_16 : (byte errors : ℕ) (m n : MachineState) → IsNextArrival byte errors m n → Holds16 m.chip → Holds16 n.chip
-arrival_16 byte errors m n a e =
-    subst Holds16 (sym a.chip) (lasts_events Holds16 holds_16 a.before m.chip e)
+-- also between the access and what it finds
+size_at_access : (m n : MachineState) → SameSizes m.chip n.chip → n.chip.transmitter.size ≡ (at_access m).chip.transmitter.size
+size_at_access m n same = same.transmitter ∙ sym (same_size-access m).transmitter
 
 -- ---- the size stays at the entries to come
 
@@ -529,22 +560,18 @@ record Shown (past : List Entry) (left : ℕ) (m : MachineState) (e : Entry) (n 
     Type 0 where
   pub lost : AllLose (findings_at e past) (known past) (left_at e.happening left m n) (at_access m).chip n
   pub sound : IsSound n
-  pub of_16 : Holds16 n.chip
   pub leave : LeaveSize n rest
   pub knows : KnowsWhatIs (known (e ∷ past)) (left_after past e left m n) n.chip
 
-fits_in : (m : MachineState) → IsSound m → Holds16 m.chip → Fits (at_access m).chip
-fits_in m sound of_16 =
-    let w = (sound_access m sound).chip in
-    let same : Holds16 (at_access m).chip = chip_lasts-before Holds16 holds_16 m.ahead m.chip of_16 in
-    (same, rw same at w.transmitter.in_room)
+fits_in : (m : MachineState) → IsSound m → Fits (at_access m).chip
+fits_in m sound = let w = (sound_access m sound).chip in w.transmitter.in_room
 
 made : (past : List Entry) (left : ℕ) (m : MachineState) (e : Entry) (n : MachineState) (rest : List RegisterAccess)
-    (access : RegisterAccess) (x : Action) → e.happening ≡ Access access → IsSound m → Holds16 m.chip → LeaveSize m (access ∷ rest) →
+    (access : RegisterAccess) (x : Action) → e.happening ≡ Access access → IsSound m → LeaveSize m (access ∷ rest) →
     KnowsWhatIs (known past) left m.chip → MachineStep m access n →
     (step_from (known past) e).action ≡ x → Does x (at_access m).chip n.chip →
     IsOffAtLook (known past).setup.is_open x (at_access m).chip → Shown past left m e n rest
-made past left m e n rest access x is sound of_16 leave k step does h off =
+made past left m e n rest access x is sound leave k step does h off =
     let a = known past in
     let s = step_from a e in
     let now = left + (length m.chip.transmitter.queue - length (at_access m).chip.transmitter.queue) in
@@ -553,13 +580,12 @@ made past left m e n rest access x is sound of_16 leave k step does h off =
     record {
       lost =
           subst (λ (left : ℕ). AllLose (findings_at e past) (known past) left (at_access m).chip n) (sym same)
-          (lost_at a now (at_access m).chip n s x does refl here (fits_in m sound of_16) h);
+          (lost_at a now (at_access m).chip n s x does refl here (fits_in m sound) h);
       sound = sound_step m n access sound step;
-      of_16 = step_16 m n access rest leave of_16 step;
       leave = leave_step m n access rest leave step;
       knows =
           subst (λ (now : ℕ). KnowsWhatIs (known (e ∷ past)) (if shows_room s then 0 else now) n.chip) (sym same)
-          (after_all a now (at_access m).chip n.chip s x does refl h off here);
+          (after_all a now (at_access m).chip n.chip s x (size_at_access m n (step_size m n access rest leave step)) does refl h off here);
     }
 
 same_dlab : (m : MachineState) → is_dlab_set (at_access m).chip.latches ≡ is_dlab_set m.chip.latches
@@ -572,31 +598,30 @@ not_looking (Arrives byte errors) q e = absurd (cc)
 not_looking _ q e = absurd q
 
 passed : (past : List Entry) (left : ℕ) (m : MachineState) (e : Entry) (n : MachineState) (rest : List RegisterAccess) (x : Action)
-    (h : Happening) → e.happening ≡ h → IsSound m → Holds16 m.chip → LeaveSize m rest → KnowsWhatIs (known past) left m.chip → n ≡ m →
+    (h : Happening) → e.happening ≡ h → IsSound m → LeaveSize m rest → KnowsWhatIs (known past) left m.chip → n ≡ m →
     (step_from (known past) e).action ≡ x → IsNoAccess x →
     left_at h left m m ≡ left →
     Does x m.chip m.chip → Shown past left m e n rest
-passed past left m e n rest x h is sound of_16 leave k step does quiet still none =
+passed past left m e n rest x h is sound leave k step does quiet still none =
     let a = known past in
     let s = step_from a e in
     let same : left_at e.happening left m m ≡ left = ap (λ (h : Happening). left_at h left m m) is ∙ still in
     record {
       lost = quiet_lost a (left_at e.happening left m n) (at_access m).chip n s x does quiet;
       sound = subst IsSound (sym step) sound;
-      of_16 = subst (λ (n : MachineState). Holds16 n.chip) (sym step) of_16;
       leave = subst (λ (n : MachineState). LeaveSize n rest) (sym step) leave;
       knows =
           subst (λ (n : MachineState). KnowsWhatIs (known (e ∷ past)) (left_after past e left m n) n.chip) (sym step)
           (subst (λ (now : ℕ). KnowsWhatIs (known (e ∷ past)) (if shows_room s then 0 else now) m.chip) (sym same)
-          (after_all a left m.chip m.chip s x does refl none (λ o looks. absurd (not_looking x quiet looks)) k));
+          (after_all a left m.chip m.chip s x refl does refl none (λ o looks. absurd (not_looking x quiet looks)) k));
     }
 
 arrived : (past : List Entry) (left : ℕ) (m : MachineState) (e : Entry) (n : MachineState) (rest : List RegisterAccess) (byte : ℕ)
-    (errors : LSR) → e.happening ≡ Arrive byte errors → IsSound m → Holds16 m.chip → LeaveSize m rest →
+    (errors : LSR) → e.happening ≡ Arrive byte errors → IsSound m → LeaveSize m rest →
     KnowsWhatIs (known past) left m.chip →
     IsNextArrival byte errors.0 m n →
     Shown past left m e n rest
-arrived past left m e n rest byte errors is sound of_16 leave k next_one =
+arrived past left m e n rest byte errors is sound leave k next_one =
     let a = known past in
     let s = step_from a e in
     let does : s.action ≡ Arrives byte errors = ap (action a.setup.is_open) is in
@@ -605,7 +630,6 @@ arrived past left m e n rest byte errors is sound of_16 leave k next_one =
     record {
       lost = quiet_lost a (left_at e.happening left m n) (at_access m).chip n s (Arrives byte errors) does tt;
       sound = sound_arrival byte errors.0 m n next_one sound;
-      of_16 = arrival_16 byte errors.0 m n next_one of_16;
       leave = leave_arrival byte errors.0 m n rest next_one leave;
       knows =
           subst (λ (now : ℕ). KnowsWhatIs (known (e ∷ past)) (if shows_room s then 0 else now) n.chip) (sym same)
@@ -613,39 +637,39 @@ arrived past left m e n rest byte errors is sound of_16 leave k next_one =
     }
 
 entry : (past : List Entry) (left : ℕ) (m : MachineState) (e : Entry) (n : MachineState) (rest : List RegisterAccess) (h : Happening) →
-    e.happening ≡ h → IsSound m → Holds16 m.chip → LeaveSize m (access_in h ++ rest) → KnowsWhatIs (known past) left m.chip →
+    e.happening ≡ h → IsSound m → LeaveSize m (access_in h ++ rest) → KnowsWhatIs (known past) left m.chip →
     Follows (known past) h m n → Shown past left m e n rest
-entry past left m e n rest (Access (Read offset value)) is sound of_16 leave k made_so =
+entry past left m e n rest (Access (Read offset value)) is sound leave k made_so =
     let o = (known past).setup.is_open in
-    made past left m e n rest (Read offset value) (read_action o offset value) is sound of_16 leave k made_so.step (ap (action o) is)
+    made past left m e n rest (Read offset value) (read_action o offset value) is sound leave k made_so.step (ap (action o) is)
     (subst (λ (d : ChipState). Does (read_action o offset value) (at_access m).chip d)
     (ap (λ (m : MachineState). m.chip) (sym made_so.step.0))
     (does_read (at_access m).chip offset value o (at_the_access (known past) left m sound k).dlab made_so.step.1))
     (λ none looks. same_dlab m ∙ off_at_look o offset value m.chip made_so.off none looks)
-entry past left m e n rest (Access (Write offset value)) is sound of_16 leave k made_so =
+entry past left m e n rest (Access (Write offset value)) is sound leave k made_so =
     let o = (known past).setup.is_open in
-    made past left m e n rest (Write offset value) (write_action o offset value) is sound of_16 leave k made_so.step (ap (action o) is)
+    made past left m e n rest (Write offset value) (write_action o offset value) is sound leave k made_so.step (ap (action o) is)
     (subst (λ (d : ChipState). Does (write_action o offset value) (at_access m).chip d)
     (ap (λ (m : MachineState). m.chip) (sym made_so.step))
     (does_write (at_access m).chip offset value o (at_the_access (known past) left m sound k).dlab
     (at_the_access (known past) left m sound k).model (none_switched m offset value rest leave)))
     (λ none looks. absurd (let e : false ≡ true = sym (no_write_looks o offset value) ∙ looks in cc))
-entry past left m e n rest (Arrive byte errors) is sound of_16 leave k step =
-    arrived past left m e n rest byte errors is sound of_16 leave k step
-entry past left m e n rest (Interrupt is_raised) is sound of_16 leave k step =
-    passed past left m e n rest Other (Interrupt is_raised) is sound of_16 leave k step (ap (action (known past).setup.is_open) is) tt refl
+entry past left m e n rest (Arrive byte errors) is sound leave k step =
+    arrived past left m e n rest byte errors is sound leave k step
+entry past left m e n rest (Interrupt is_raised) is sound leave k step =
+    passed past left m e n rest Other (Interrupt is_raised) is sound leave k step (ap (action (known past).setup.is_open) is) tt refl
     (alike_refl m.chip, tt)
-entry past left m e n rest (Lines inputs) is sound of_16 leave k step =
-    passed past left m e n rest (ChangesLines inputs) (Lines inputs) is sound of_16 leave k step
+entry past left m e n rest (Lines inputs) is sound leave k step =
+    passed past left m e n rest (ChangesLines inputs) (Lines inputs) is sound leave k step
     (ap (action (known past).setup.is_open) is) tt refl
     (alike_refl m.chip, tt)
 
-pub right : (past entries : List Entry) (left : ℕ) (m : MachineState) → IsSound m → Holds16 m.chip →
+pub right : (past entries : List Entry) (left : ℕ) (m : MachineState) → IsSound m →
     LeaveSize m (accesses_in entries) → KnowsWhatIs (known past) left m.chip → IsRight past left m entries
-right past [] left m sound of_16 leave k = tt
-right past (e ∷ entries) left m sound of_16 leave k = λ n follows.
-    let shown = entry past left m e n (accesses_in entries) e.happening refl sound of_16 leave k follows in
-    (shown.lost, right (e ∷ past) entries (left_after past e left m n) n shown.sound shown.of_16 shown.leave shown.knows)
+right past [] left m sound leave k = tt
+right past (e ∷ entries) left m sound leave k = λ n follows.
+    let shown = entry past left m e n (accesses_in entries) e.happening refl sound leave k follows in
+    (shown.lost, right (e ∷ past) entries (left_after past e left m n) n shown.sound shown.leave shown.knows)
 
 -- ---- the first entry
 
@@ -662,7 +686,7 @@ nothing_known c model = record {
   fifos = tt;
   trigger = tt;
   waiting = none (length c.receiver.queue);
-  sent = no_bytes (room_of c.fifo Sixteen) (length c.transmitter.queue);
+  sent = no_bytes (room_of c.fifo c.transmitter.size) (length c.transmitter.queue);
 }
   where
     none : (n : ℕ) → 0 ≤ n
@@ -672,13 +696,14 @@ nothing_known c model = record {
     no_bytes space queued = omega arith
 
 -- nothing is known before, and the access shows DLAB
-begun : (m : MachineState) (e : Entry) (d : ChipState) (x : Action) → m.chip.model ≡ Uart16550A → (step_from (known []) e).action ≡ x →
+begun : (m : MachineState) (e : Entry) (d : ChipState) (x : Action) → m.chip.model ≡ Uart16550A →
+    d.transmitter.size ≡ (at_access m).chip.transmitter.size → (step_from (known []) e).action ≡ x →
     Does x (at_access m).chip d → IsOffAtLook None x (at_access m).chip → next_is_open None x ≡ Some (is_dlab_set d.latches) →
     KnowsDlab (known (e ∷ [])) 0 d
-begun m e d x model does h off dlab =
+begun m e d x model size does h off dlab =
     let s = step_from (known []) e in
     let c = (at_access m).chip in
-    let k = after_all (known []) 0 c d s x does refl h off
+    let k = after_all (known []) 0 c d s x size does refl h off
     (nothing_known c (ap (λ (k : Kept). k.model) (kept_access m) ∙ model)) in
     record {
       knows = record {
@@ -700,7 +725,8 @@ begins_read m n e value model is step =
     let x : Action = ReadsLine (record { 0 = value }) in
     let h : Does x c n.chip = subst (λ (n : MachineState). Does x c n.chip) (sym step.0) (does_read c offsets.LCR value None tt step.1) in
     let off : IsOffAtLook None x c = λ o looks. absurd (cc) in
-    begun m e n.chip x model (ap (action None) is) h off (ap Some (sym (after_dlab c n.chip x None h off tt)))
+    begun m e n.chip x model (size_at_access m n (same_size (Read offsets.LCR value ∷ []) m n (refl, tt) (n, step, refl)))
+    (ap (action None) is) h off (ap Some (sym (after_dlab c n.chip x None h off tt)))
 
 pub begins_written : (m n : MachineState) (e : Entry) (value : ℕ) → m.chip.model ≡ Uart16550A →
     e.happening ≡ Access (Write offsets.LCR value) → MachineStep m (Write offsets.LCR value) n → KnowsDlab (known (e ∷ [])) 0 n.chip
@@ -710,7 +736,8 @@ begins_written m n e value model is step =
     let h : Does x c n.chip = subst (λ (n : MachineState). Does x c n.chip) (sym step)
     (does_write c offsets.LCR value None tt (ap (λ (k : Kept). k.model) (kept_access m) ∙ model) (λ e. absurd (cc))) in
     let off : IsOffAtLook None x c = λ o looks. absurd (cc) in
-    begun m e n.chip x model (ap (action None) is) h off (ap Some (sym (after_dlab c n.chip x None h off tt)))
+    begun m e n.chip x model (size_at_access m n (same_size (Write offsets.LCR value ∷ []) m n (refl, tt) (n, step, refl)))
+    (ap (action None) is) h off (ap Some (sym (after_dlab c n.chip x None h off tt)))
 
 pub begins_looked : (m n : MachineState) (e : Entry) (value : ℕ) → m.chip.model ≡ Uart16550A → is_dlab_set m.chip.latches ≡ false →
     e.happening ≡ Access (Read offsets.LSR value) → MachineStep m (Read offsets.LSR value) n → KnowsDlab (known (e ∷ [])) 0 n.chip
@@ -719,4 +746,5 @@ begins_looked m n e value model closed is step =
     let x : Action = LooksAtLine (record { 0 = value }) in
     let h : Does x c n.chip = subst (λ (n : MachineState). Does x c n.chip) (sym step.0) (does_read c offsets.LSR value None tt step.1) in
     let off : IsOffAtLook None x c = λ o looks. same_dlab m ∙ closed in
-    begun m e n.chip x model (ap (action None) is) h off (ap Some (sym (after_dlab c n.chip x None h off tt)))
+    begun m e n.chip x model (size_at_access m n (same_size (Read offsets.LSR value ∷ []) m n (refl, tt) (n, step, refl)))
+    (ap (action None) is) h off (ap Some (sym (after_dlab c n.chip x None h off tt)))

@@ -1,19 +1,21 @@
 -- What holds before and after some entries, and what is not found at them.
 use Rattle.std.proofs.Common.{◌≡◌, List, [], ◌∷◌, ◌++◌, refl, sym, ◌∙◌, ap, subst}
 use Rattle.uart_spec.specs.declared.access.Access.{Access as RegisterAccess}
+use Rattle.uart_spec.specs.declared.setup.FifoSize.{FifoSize}
 use Rattle.uart_judges.specs.Findings.{all_found, findings_at}
 use Rattle.uart_judges.specs.History.{known, next, step_from}
 use Rattle.uart_judges.specs.declared.audit.auditor.Auditor.{Auditor}
 use Rattle.uart_judges.specs.declared.recording.entry.Entry.{Entry}
 use Rattle.uart_judges.specs.declared.recording.entry.Happening.{Happening}
 use Rattle.uart_judges.specs.declared.recording.entry.Happening.TheVariants.{Access}
-use Rattle.uart_judges_runs.specs.Recorded.{HasNone, NoneIs, access_in, accesses_in, behind, is_of_calls}
+use Rattle.uart_judges_runs.specs.Recorded.{HasNone, NoneIs, access_in, accesses_in, behind}
+use Rattle.uart_judges_runs.proofs.Spared.{of_calls}
 
 -- ---- one entry
 
 -- from a state of the first kind the entry leads to one of the second, and there is no such finding at it
-abbrev pub Leads : (P Q : Auditor → Type 0) → Entry → Type 0
-Leads P Q e = (a : Auditor) → P a → NoneIs is_of_calls (all_found a (step_from a e)) × Q (next a (step_from a e))
+abbrev pub Leads : (size : FifoSize) (P Q : Auditor → Type 0) → Entry → Type 0
+Leads size P Q e = (a : Auditor) → P a → NoneIs (of_calls size) (all_found a (step_from a e)) × Q (next a (step_from a e))
 
 -- it is no access
 abbrev pub IsOther : Happening → Type 0
@@ -21,23 +23,23 @@ IsOther (Access access) = ⊥
 IsOther _ = Unit {0}
 
 -- whatever happens beside accesses
-abbrev pub Stays : (Auditor → Type 0) → Type 0
-Stays P = (e : Entry) → IsOther e.happening → Leads P P e
+abbrev pub Stays : (size : FifoSize) → (Auditor → Type 0) → Type 0
+Stays size P = (e : Entry) → IsOther e.happening → Leads size P P e
 
 -- an access, at whatever line, time and level
-abbrev pub Moves : (P : Auditor → Type 0) → RegisterAccess → (Q : Auditor → Type 0) → Type 0
-Moves P x Q = (e : Entry) → e.happening ≡ Access x → Leads P Q e
+abbrev pub Moves : (size : FifoSize) (P : Auditor → Type 0) → RegisterAccess → (Q : Auditor → Type 0) → Type 0
+Moves size P x Q = (e : Entry) → e.happening ≡ Access x → Leads size P Q e
 
 -- what is known goes on by an entry
-at_entry : (P Q : Auditor → Type 0) (e : Entry) (past : List Entry) → Leads P Q e → P (known past) →
-    NoneIs is_of_calls (findings_at e past) × Q (known (e ∷ past))
-at_entry P Q e past leads p = leads (known past) p
+at_entry : (size : FifoSize) (P Q : Auditor → Type 0) (e : Entry) (past : List Entry) → Leads size P Q e → P (known past) →
+    NoneIs (of_calls size) (findings_at e past) × Q (known (e ∷ past))
+at_entry size P Q e past leads p = leads (known past) p
 
 -- ---- some accesses, with what else happens between
 
-abbrev pub Goes : (P : Auditor → Type 0) → List RegisterAccess → (Q : Auditor → Type 0) → Type 0
-Goes P l Q = (past entries : List Entry) → accesses_in entries ≡ l → P (known past) →
-    HasNone is_of_calls past entries × Q (known (behind past entries))
+abbrev pub Goes : (size : FifoSize) (P : Auditor → Type 0) → List RegisterAccess → (Q : Auditor → Type 0) → Type 0
+Goes size P l Q = (past entries : List Entry) → accesses_in entries ≡ l → P (known past) →
+    HasNone (of_calls size) past entries × Q (known (behind past entries))
 
 -- an entry is an access, or another one
 pub data IsEither (h : Happening) : Type 0 where
@@ -55,43 +57,47 @@ rest_is : (x y : RegisterAccess) (l m : List RegisterAccess) → x ∷ l ≡ y �
 rest_is x y l m e = cc
 
 -- what is shown of some entries
-abbrev Shown : (P : Auditor → Type 0) → (past entries : List Entry) → Type 0
-Shown P past entries = HasNone is_of_calls past entries × P (known (behind past entries))
+abbrev Shown : (size : FifoSize) (P : Auditor → Type 0) → (past entries : List Entry) → Type 0
+Shown size P past entries = HasNone (of_calls size) past entries × P (known (behind past entries))
 
-none_from : (P : Auditor → Type 0) → Stays P → (past : List Entry) (e : Entry) (es : List Entry) → IsEither e.happening →
+none_from : (size : FifoSize) (P : Auditor → Type 0) → Stays size P → (past : List Entry) (e : Entry) (es : List Entry) →
+    IsEither e.happening →
     access_in e.happening ++ accesses_in es ≡ [] → P (known past) →
-    (accesses_in es ≡ [] → P (known (e ∷ past)) → Shown P (e ∷ past) es) → Shown P past (e ∷ es)
-none_from P stays past e es (access x h) is p rest =
+    (accesses_in es ≡ [] → P (known (e ∷ past)) → Shown size P (e ∷ past) es) → Shown size P past (e ∷ es)
+none_from size P stays past e es (access x h) is p rest =
     let f : x ∷ accesses_in es ≡ [] = sym (ap (λ (h : Happening). access_in h ++ accesses_in es) h) ∙ is in absurd (cc)
-none_from P stays past e es (other o none) is p rest =
-    let here = at_entry P P e past (stays e o) p in
+none_from size P stays past e es (other o none) is p rest =
+    let here = at_entry size P P e past (stays e o) p in
     let left : accesses_in es ≡ [] = sym (ap (λ (l : List RegisterAccess). l ++ accesses_in es) none) ∙ is in
     let r = rest left here.1 in
     ((here.0, r.0), r.1)
 
-pub goes_none : (P : Auditor → Type 0) → Stays P → Goes P [] P
-goes_none P stays past [] is p = (tt, p)
-goes_none P stays past (e ∷ es) is p =
-    none_from P stays past e es (either e.happening) is p (λ left q. goes_none P stays (e ∷ past) es left q)
+pub goes_none : (size : FifoSize) (P : Auditor → Type 0) → Stays size P → Goes size P [] P
+goes_none size P stays past [] is p = (tt, p)
+goes_none size P stays past (e ∷ es) is p =
+    none_from size P stays past e es (either e.happening) is p (λ left q. goes_none size P stays (e ∷ past) es left q)
 
-one_from : (P Q : Auditor → Type 0) (x : RegisterAccess) → Stays P → Stays Q → Moves P x Q → (past : List Entry) (e : Entry)
+one_from : (size : FifoSize) (P Q : Auditor → Type 0) (x : RegisterAccess) → Stays size P → Stays size Q → Moves size P x Q →
+    (past : List Entry) (e : Entry)
     (es : List Entry) → IsEither e.happening → access_in e.happening ++ accesses_in es ≡ x ∷ [] → P (known past) →
-    (accesses_in es ≡ x ∷ [] → P (known (e ∷ past)) → Shown Q (e ∷ past) es) → Shown Q past (e ∷ es)
-one_from P Q x stays after moves past e es (access y h) is p rest =
+    (accesses_in es ≡ x ∷ [] → P (known (e ∷ past)) → Shown size Q (e ∷ past) es) → Shown size Q past (e ∷ es)
+one_from size P Q x stays after moves past e es (access y h) is p rest =
     let whole : y ∷ accesses_in es ≡ x ∷ [] = sym (ap (λ (h : Happening). access_in h ++ accesses_in es) h) ∙ is in
-    let here = at_entry P Q e past (moves e (h ∙ ap Access (first_is y x (accesses_in es) [] whole))) p in
-    let r = goes_none Q after (e ∷ past) es (rest_is y x (accesses_in es) [] whole) here.1 in
+    let here = at_entry size P Q e past (moves e (h ∙ ap Access (first_is y x (accesses_in es) [] whole))) p in
+    let r = goes_none size Q after (e ∷ past) es (rest_is y x (accesses_in es) [] whole) here.1 in
     ((here.0, r.0), r.1)
-one_from P Q x stays after moves past e es (other o none) is p rest =
-    let here = at_entry P P e past (stays e o) p in
+one_from size P Q x stays after moves past e es (other o none) is p rest =
+    let here = at_entry size P P e past (stays e o) p in
     let left : accesses_in es ≡ x ∷ [] = sym (ap (λ (l : List RegisterAccess). l ++ accesses_in es) none) ∙ is in
     let r = rest left here.1 in
     ((here.0, r.0), r.1)
 
-pub goes_one : (P Q : Auditor → Type 0) (x : RegisterAccess) → Stays P → Stays Q → Moves P x Q → Goes P (x ∷ []) Q
-goes_one P Q x stays after moves past [] is p = absurd (cc)
-goes_one P Q x stays after moves past (e ∷ es) is p =
-    one_from P Q x stays after moves past e es (either e.happening) is p (λ left q. goes_one P Q x stays after moves (e ∷ past) es left q)
+pub goes_one : (size : FifoSize) (P Q : Auditor → Type 0) (x : RegisterAccess) → Stays size P → Stays size Q → Moves size P x Q →
+    Goes size P (x ∷ []) Q
+goes_one size P Q x stays after moves past [] is p = absurd (cc)
+goes_one size P Q x stays after moves past (e ∷ es) is p =
+    one_from size P Q x stays after moves past e es (either e.happening) is p (λ left q. goes_one size P Q x stays after moves
+    (e ∷ past) es left q)
 
 -- ---- one after the other
 
@@ -132,16 +138,17 @@ parts [] (x ∷ l) m is = absurd (cc)
 parts (e ∷ es) (x ∷ l) m is =
     parts_from e es x l m (either e.happening) is (λ left. parts es l m left) (λ left. parts es (x ∷ l) m left)
 
-both : (P : Auditor → Type 0) (past front back : List Entry) → HasNone is_of_calls past front →
-    HasNone is_of_calls (behind past front) back × P (known (behind (behind past front) back)) →
-    HasNone is_of_calls past (front ++ back) × P (known (behind past (front ++ back)))
-both P past [] back h k = k
-both P past (e ∷ front) back h k = let r = both P (e ∷ past) front back h.1 k in ((h.0, r.0), r.1)
+both : (size : FifoSize) (P : Auditor → Type 0) (past front back : List Entry) → HasNone (of_calls size) past front →
+    HasNone (of_calls size) (behind past front) back × P (known (behind (behind past front) back)) →
+    HasNone (of_calls size) past (front ++ back) × P (known (behind past (front ++ back)))
+both size P past [] back h k = k
+both size P past (e ∷ front) back h k = let r = both size P (e ∷ past) front back h.1 k in ((h.0, r.0), r.1)
 
-pub goes_then : (P Q R : Auditor → Type 0) (l m : List RegisterAccess) → Goes P l Q → Goes Q m R → Goes P (l ++ m) R
-goes_then P Q R l m first second past entries is p =
+pub goes_then : (size : FifoSize) (P Q R : Auditor → Type 0) (l m : List RegisterAccess) → Goes size P l Q → Goes size Q m R →
+    Goes size P (l ++ m) R
+goes_then size P Q R l m first second past entries is p =
     let cut = parts entries l m is in
     let a = first past cut.front cut.first p in
     let b = second (behind past cut.front) cut.back cut.second a.1 in
-    let r = both R past cut.front cut.back a.0 b in
-    subst (λ (es : List Entry). HasNone is_of_calls past es × R (known (behind past es))) (sym cut.whole) r
+    let r = both size R past cut.front cut.back a.0 b in
+    subst (λ (es : List Entry). HasNone (of_calls size) past es × R (known (behind past es))) (sym cut.whole) r

@@ -3,7 +3,7 @@ use Rattle.std.proofs.Common.{◌≡◌, Bool, List, [], ◌∷◌, Result, Ok, 
 use Rattle.uart_spec.specs.declared.access.Access.{Access as RegisterAccess}
 use Rattle.uart_spec.specs.declared.errors.FifosOffError.{FifosOffError}
 use Rattle.uart_spec.specs.declared.registers.fifo_trigger_level.FifoTriggerLevel.{FifoTriggerLevel}
-use Rattle.uart_spec.specs.declared.setup.FifoSize.TheVariants.{Sixteen}
+use Rattle.uart_spec.specs.declared.setup.FifoSize.{FifoSize}
 use Rattle.uart_16550.specs.Driver.{Fields, settings_of}
 use Rattle.uart_16550.specs.Setup.{SetsTrigger}
 use Rattle.uart_events.specs.declared.call.Answer.{Answer}
@@ -17,7 +17,7 @@ use Rattle.uart_judges_runs.proofs.Recordings.{Goes, goes_none, goes_then}
 use Rattle.uart_judges_runs.proofs.Kept.{stays_knows}
 use Rattle.uart_run.proofs.CallBlocks.{most_in}
 use Rattle.uart_run.proofs.SizeKept.{call_leaves}
-use Rattle.uart_judges_runs.proofs.CallLists.{goes_list, list_of, sixteen_at_once}
+use Rattle.uart_judges_runs.proofs.CallLists.{goes_list, list_of, fits_at_once}
 use Rattle.uart_judges_runs.proofs.Taken.{OpenIn, list_path}
 
 level_fifo : (v : FifoTriggerLevel) (r : Result (Unit {0}) FifosOffError) (f after : Fields) (l : List RegisterAccess) →
@@ -53,19 +53,21 @@ same_fifo _ f after l a i h = ap (λ (g : Fields). g.fifo) h.does.1
 same_size : (c : Call) (f after : Fields) (l : List RegisterAccess) (a : Answer) → IsListOf c f l a after → after.size ≡ f.size
 same_size c f after l a h = call_leaves c h.outcome f l after h.does
 
-pub goes_session : (calls : List Call) (f : Fields) (m n : MachineState) (l : List RegisterAccess) → f.size ≡ Sixteen → OpenIn f.fifo m →
+pub goes_session : (calls : List Call) (f : Fields) (m n : MachineState) (l : List RegisterAccess) → OpenIn f.fifo m →
     IsSession calls f m l n →
-    Goes (KnowsAsTaken f.fifo) l (KnowsAsTaken f.fifo)
-goes_session [] f m n l size o h =
-    subst (λ (l : List RegisterAccess). Goes (KnowsAsTaken f.fifo) l (KnowsAsTaken f.fifo)) (sym h.0)
-    (goes_none (KnowsAsTaken f.fifo) (stays_knows f.fifo))
-goes_session (c ∷ calls) f m n l size o h =
+    Goes f.size (KnowsAsTaken f.fifo) l (KnowsAsTaken f.fifo)
+goes_session [] f m n l o h =
+    subst (λ (l : List RegisterAccess). Goes f.size (KnowsAsTaken f.fifo) l (KnowsAsTaken f.fifo)) (sym h.0)
+    (goes_none f.size (KnowsAsTaken f.fifo) (stays_knows f.size f.fifo))
+goes_session (c ∷ calls) f m n l o h =
     let K = KnowsAsTaken f.fifo in
     let s = list_of c f h.after h.front h.answer h.steady h.list in
     let t = list_path f.fifo (most_in (settings_of f)) h.front m h.mid s h.path o in
     let same : h.after.fifo ≡ f.fifo = same_fifo c f h.after h.front h.answer h.steady h.list in
-    let still : h.after.size ≡ Sixteen = same_size c f h.after h.front h.answer h.list ∙ size in
-    let rest = goes_session calls h.after h.mid n h.back still (subst (λ (b : Bool). OpenIn b h.mid) (sym same) t.after) h.follows in
-    let back : Goes K h.back K = subst (λ (b : Bool). Goes (KnowsAsTaken b) h.back (KnowsAsTaken b)) same rest in
-    subst (λ (l : List RegisterAccess). Goes K l K) (sym h.whole) (goes_then K K K h.front h.back
-    (goes_list f.fifo (most_in (settings_of f)) h.front (sixteen_at_once f size) s t.taken) back)
+    let rest = goes_session calls h.after h.mid n h.back (subst (λ (b : Bool). OpenIn b h.mid) (sym same) t.after) h.follows in
+    let sized : Goes f.size (KnowsAsTaken h.after.fifo) h.back (KnowsAsTaken h.after.fifo) =
+    subst (λ (z : FifoSize). Goes z (KnowsAsTaken h.after.fifo) h.back (KnowsAsTaken h.after.fifo))
+    (same_size c f h.after h.front h.answer h.list) rest in
+    let back : Goes f.size K h.back K = subst (λ (b : Bool). Goes f.size (KnowsAsTaken b) h.back (KnowsAsTaken b)) same sized in
+    subst (λ (l : List RegisterAccess). Goes f.size K l K) (sym h.whole) (goes_then f.size K K K h.front h.back
+    (goes_list f.size f.fifo (most_in (settings_of f)) h.front (fits_at_once f) s t.taken) back)

@@ -1,7 +1,6 @@
 -- The single accesses of a session.
 use Rattle.std.proofs.Common.{◌≡◌, ◌≤◌, ◌<◌, ◌+◌, ℕ, zero, suc, Bool, true, false, not, ◌&&◌, ◌==◌}
 use Rattle.std.proofs.Common.{Option, Some, None, refl, sym, ◌∙◌, ap, subst, arith, if◌then◌else◌, max, bit_or}
-use Rattle.std.specs.Prelude.{nat_le}
 use Rattle.std.proofs.lemmas.Bool.{and_left, and_right, or_left, or_right}
 use Rattle.std.proofs.lemmas.Grind.{common_steps}
 use Rattle.uart_spec.specs.Bits.{has, has_any}
@@ -14,6 +13,7 @@ use Rattle.uart_spec.specs.declared.registers.line_control.LCR.{LCR}
 use Rattle.uart_spec.specs.declared.registers.line_control.TheConstants.LCR as lcr_bits
 use Rattle.uart_spec.specs.declared.registers.line_status.TheConstants.LSR as lsr_bits
 use Rattle.uart_spec.specs.declared.registers.offsets.TheConstants as offsets
+use Rattle.uart_spec.specs.declared.setup.FifoSize.{FifoSize}
 use Rattle.uart_spec.specs.declared.setup.FifoSize.TheVariants.{Sixteen}
 use Rattle.uart_chip.specs.Transmitter.{room as room_of}
 use Rattle.uart_chip.proofs.Bits.{has_one, has_or}
@@ -39,10 +39,10 @@ use Rattle.uart_judges.specs.declared.recording.entry.Entry.{Entry}
 use Rattle.uart_judges.specs.declared.recording.entry.Happening.{Happening}
 use Rattle.uart_judges.specs.declared.recording.entry.Happening.TheVariants.{Access}
 use Rattle.uart_judges_runs.specs.Calls.{IsTaken, KnowsAsTaken, Shows}
-use Rattle.uart_judges_runs.specs.Recorded.{NoneIs, is_of_calls}
+use Rattle.uart_judges_runs.specs.Recorded.{NoneIs}
 use Rattle.uart_judges_runs.proofs.Recordings.{Moves}
 use Rattle.uart_judges_runs.proofs.Kept.{IsStill, Opened, Reading, Sending, knows_still, sending_still, since_none, six_at, spared_still}
-use Rattle.uart_judges_runs.proofs.Spared.{Spared, all_spared, another, nothing, spared_if, spared_when}
+use Rattle.uart_judges_runs.proofs.Spared.{Spared, all_spared, another, nothing, of_calls, room_spared, spared_if, spared_when}
 
 -- ---- still accesses
 
@@ -78,27 +78,27 @@ still_as : (fifo : Bool) (o : Option Bool) (e : Entry) (x : RegisterAccess) → 
     IsStill fifo (action o (Access x)) → IsStill fifo (action o e.happening)
 still_as fifo o e x is still = subst (λ (h : Happening). IsStill fifo (action o h)) (sym is) still
 
-pub moves_quiet : (fifo : Bool) (x : RegisterAccess) → is_quiet x ≡ true → IsTaken fifo false x →
-    Moves (KnowsAsTaken fifo) x (KnowsAsTaken fifo)
-moves_quiet fifo x q t e is a k =
+pub moves_quiet : (size : FifoSize) (fifo : Bool) (x : RegisterAccess) → is_quiet x ≡ true → IsTaken fifo false x →
+    Moves size (KnowsAsTaken fifo) x (KnowsAsTaken fifo)
+moves_quiet size fifo x q t e is a k =
     let s = step_from a e in
     let still : IsStill fifo s.action = still_as fifo a.setup.is_open e x is (quiet_still fifo a.setup.is_open x q t k.dlab) in
-    (all_spared a s (spared_still fifo a s still), knows_still fifo a s still k)
+    (all_spared size a s (spared_still fifo a s still), knows_still fifo a s still k)
 
-pub sending_quiet : (fifo : Bool) (k : ℕ) (x : RegisterAccess) → is_quiet x ≡ true → IsTaken fifo false x →
-    Moves (Sending fifo k) x (Sending fifo k)
-sending_quiet fifo k x q t e is a w =
+pub sending_quiet : (size : FifoSize) (fifo : Bool) (k : ℕ) (x : RegisterAccess) → is_quiet x ≡ true → IsTaken fifo false x →
+    Moves size (Sending fifo k) x (Sending fifo k)
+sending_quiet size fifo k x q t e is a w =
     let s = step_from a e in
     let still : IsStill fifo s.action = still_as fifo a.setup.is_open e x is (quiet_still fifo a.setup.is_open x q t w.knows.dlab) in
-    (all_spared a s (spared_still fifo a s still), sending_still fifo k a s still w)
+    (all_spared size a s (spared_still fifo a s still), sending_still fifo k a s still w)
 
 -- ---- looks at LSR
 
-pub moves_look : (fifo : Bool) (line : ℕ) → Moves (KnowsAsTaken fifo) (Read offsets.LSR line) (KnowsAsTaken fifo)
-moves_look fifo line e is a k =
+pub moves_look : (size : FifoSize) (fifo : Bool) (line : ℕ) → Moves size (KnowsAsTaken fifo) (Read offsets.LSR line) (KnowsAsTaken fifo)
+moves_look size fifo line e is a k =
     let s = step_from a e in
     let still : IsStill fifo s.action = still_as fifo a.setup.is_open e (Read offsets.LSR line) is tt in
-    (all_spared a s (spared_still fifo a s still), knows_still fifo a s still k)
+    (all_spared size a s (spared_still fifo a s still), knows_still fifo a s still k)
 
 is_look : (o : Option Bool) (e : Entry) (line : ℕ) → e.happening ≡ Access (Read offsets.LSR line) →
     action o e.happening ≡ LooksAtLine (record { 0 = line })
@@ -129,12 +129,12 @@ waits_shown line n shows = rw (has_one 0 line ∙ shows) (omega arith)
 since_reset : (b r h : Bool) → r ≡ true → h ≡ false → next_since b r h ≡ false
 since_reset b r h e f = rw (e, f) (and_right b false refl)
 
-pub reading_begins : (fifo : Bool) (line : ℕ) → has_any line lsr_bits.DATA_READY.0 ≡ true →
-    Moves (KnowsAsTaken fifo) (Read offsets.LSR line) (Reading fifo)
-reading_begins fifo line shows e is a k =
+pub reading_begins : (size : FifoSize) (fifo : Bool) (line : ℕ) → has_any line lsr_bits.DATA_READY.0 ≡ true →
+    Moves size (KnowsAsTaken fifo) (Read offsets.LSR line) (Reading fifo)
+reading_begins size fifo line shows e is a k =
     let s = step_from a e in
     let look : s.action ≡ LooksAtLine (record { 0 = line }) = is_look a.setup.is_open e line is in
-    let made = moves_look fifo line e is a k in (
+    let made = moves_look size fifo line e is a k in (
       made.0,
       record {
         knows = made.1;
@@ -145,23 +145,24 @@ reading_begins fifo line shows e is a k =
       },
     )
 
-some_wait : (n : ℕ) (x y : Option Finding) → 1 ≤ n → Spared y → Spared (if n == 0 then x else y)
+some_wait : {size : FifoSize} → (n : ℕ) (x y : Option Finding) → 1 ≤ n → Spared size y → Spared size (if n == 0 then x else y)
 some_wait n x y few p = let e : (n == 0) ≡ false = grind (arith, common_steps) in rw e p
 
-errors_looked : (oldest : Option Arrived) (a : Auditor) → 1 ≤ a.waiting → a.has_taken ≡ false → Spared (taken_from oldest a)
-errors_looked (Some oldest) a few e = nothing
-errors_looked None a few e =
+errors_looked : (size : FifoSize) (oldest : Option Arrived) (a : Auditor) → 1 ≤ a.waiting → a.has_taken ≡ false →
+    Spared size (taken_from oldest a)
+errors_looked size (Some oldest) a few e = nothing
+errors_looked size None a few e =
     some_wait a.waiting (taken_from_nothing a) (when a.has_taken found.ErrorsNotRead) few
-    (subst (λ (b : Bool). Spared (when b found.ErrorsNotRead)) (sym e) nothing)
+    (subst (λ (b : Bool). Spared size (when b found.ErrorsNotRead)) (sym e) nothing)
 
-pub reading_ends : (fifo : Bool) (byte : ℕ) → Moves (Reading fifo) (Read offsets.DATA byte) (KnowsAsTaken fifo)
-reading_ends fifo byte e is a w =
+pub reading_ends : (size : FifoSize) (fifo : Bool) (byte : ℕ) → Moves size (Reading fifo) (Read offsets.DATA byte) (KnowsAsTaken fifo)
+reading_ends size fifo byte e is a w =
     let s = step_from a e in
     let x : s.action ≡ Receives byte = ap (action a.setup.is_open) is ∙ ap (λ (o : Option Bool). data_read o byte) w.looked in (
-      all_spared a s (six_at a s (Receives byte) x (record {
+      all_spared size a s (six_at size a s (Receives byte) x (record {
         room = nothing;
         output = nothing;
-        taken = errors_looked (front a.unread) a w.waiting w.looked_for_errors;
+        taken = errors_looked size (front a.unread) a w.waiting w.looked_for_errors;
         latch = nothing;
         change = nothing;
         discard = refl;
@@ -174,12 +175,12 @@ reading_ends fifo byte e is a w =
 count_reset : (b : ℕ) (r h : Bool) → r ≡ true → h ≡ false → next_count b r h ≤ 0
 count_reset b r h e f = rw (e, f) (omega arith)
 
-pub sending_begins : (fifo : Bool) (line : ℕ) → has_any line lsr_bits.THR_EMPTY.0 ≡ true →
-    Moves (KnowsAsTaken fifo) (Read offsets.LSR line) (Sending fifo 0)
-sending_begins fifo line shows e is a k =
+pub sending_begins : (size : FifoSize) (fifo : Bool) (line : ℕ) → has_any line lsr_bits.THR_EMPTY.0 ≡ true →
+    Moves size (KnowsAsTaken fifo) (Read offsets.LSR line) (Sending fifo 0)
+sending_begins size fifo line shows e is a k =
     let s = step_from a e in
     let look : s.action ≡ LooksAtLine (record { 0 = line }) = is_look a.setup.is_open e line is in
-    let made = moves_look fifo line e is a k in
+    let made = moves_look size fifo line e is a k in
     let shown : shows_thr_empty s.action ≡ true = ap shows_thr_empty look ∙ (has_one 5 line ∙ shows) in (
       made.0,
       record {
@@ -193,18 +194,15 @@ few_before : (b : Bool) (n k : ℕ) → n ≤ k → (if b then 0 else n) ≤ k
 few_before true n k p = omega arith
 few_before false n k p = p
 
-has_room : (d n : ℕ) (f : Finding) → n < d → Spared (when (nat_le d n) f)
-has_room d n f few = let e : nat_le d n ≡ false = grind (arith, common_steps) in rw e nothing
-
-not_first : (b : Bool) (x y : Option Finding) → b ≡ false → Spared y → Spared (if b then x else y)
+not_first : {size : FifoSize} → (b : Bool) (x y : Option Finding) → b ≡ false → Spared size y → Spared size (if b then x else y)
 not_first b x y e p = rw e p
 
-goes_out : (a : Auditor) (s : Step) (byte : ℕ) → loops_back s.setup.modem ≡ false → Spared (given a s.setup byte)
+goes_out : {size : FifoSize} → (a : Auditor) (s : Step) (byte : ℕ) → loops_back s.setup.modem ≡ false → Spared size (given a s.setup byte)
 goes_out a s byte e =
     let f : loops_again a s.setup ≡ false = and_left (loops_back s.setup.modem) (a.has_looped && a.is_thr_empty) e in
     let looped : Option Finding = Some (found.SentInLoopback byte) in
     let cut : Option Finding = when (cuts s.setup.line byte) (found.WordTooShort byte) in
-    let rest : Spared (if loops_again a s.setup then looped else cut) =
+    let rest : Spared _ (if loops_again a s.setup then looped else cut) =
     not_first (loops_again a s.setup) looped cut f (spared_when (cuts s.setup.line byte) (found.WordTooShort byte) refl) in
     spared_if (is_in_break s.setup.line) (Some (found.SentInBreak byte)) (if loops_again a s.setup then looped else cut)
     (another {f = found.SentInBreak byte} refl) rest
@@ -213,15 +211,15 @@ count_one : (b k : ℕ) (r h : Bool) → h ≡ true → b ≤ k → next_count b
 count_one b k true h e few = rw e (omega arith)
 count_one b k false h e few = rw e (omega arith)
 
-pub sending_sends : (fifo : Bool) (k byte : ℕ) → k < room_of fifo Sixteen →
-    Moves (Sending fifo k) (Write offsets.DATA byte) (Sending fifo (k + 1))
-sending_sends fifo k byte room e is a w =
+pub sending_sends : (size : FifoSize) (fifo : Bool) (k byte : ℕ) → k < room_of fifo size →
+    Moves size (Sending fifo k) (Write offsets.DATA byte) (Sending fifo (k + 1))
+sending_sends size fifo k byte room e is a w =
     let s = step_from a e in
     let x : s.action ≡ Sends byte = ap (action a.setup.is_open) is ∙ ap (λ (o : Option Bool). data_written o byte) w.looked in
     let few : sent_before a s ≤ k = few_before s.has_rested a.sent k w.sent in
-    let fits : room_of fifo Sixteen ≤ depth s.setup.has_fifo = w.knows.room in (
-      all_spared a s (six_at a s (Sends byte) x (record {
-        room = has_room (depth s.setup.has_fifo) (sent_before a s) _ (omega (arith, few, fits, room));
+    let fits : sent_before a s < room_of fifo size = omega (arith, few, room) in (
+      all_spared size a s (six_at size a s (Sends byte) x (record {
+        room = room_spared fifo s.setup.has_fifo (sent_before a s) fits w.knows.room;
         output = goes_out a s byte w.knows.loopback;
         taken = nothing;
         latch = nothing;
@@ -237,7 +235,8 @@ sending_sends fifo k byte room e is a w =
 
 -- ---- the divisor is read
 
-not_closing : (o : Option Bool) (lcr : LCR) (x : Option Finding) → is_open o ≡ false → Spared (if closes o lcr then x else None)
+not_closing : {size : FifoSize} → (o : Option Bool) (lcr : LCR) (x : Option Finding) → is_open o ≡ false →
+    Spared size (if closes o lcr then x else None)
 not_closing None lcr x e = nothing
 not_closing (Some true) lcr x e = absurd (cc)
 not_closing (Some false) lcr x e = nothing
@@ -245,13 +244,14 @@ not_closing (Some false) lcr x e = nothing
 pub opens_latch : (lcr : ℕ) → has (bit_or lcr lcr_bits.DLAB.0) lcr_bits.DLAB.0 ≡ true
 opens_latch lcr = has_one 7 (bit_or lcr 128) ∙ (has_or 7 lcr 128 ∙ or_right (has_any lcr 128) (has_any 128 128) refl)
 
-pub opens : (fifo : Bool) (lcr : ℕ) → Moves (KnowsAsTaken fifo) (Write offsets.LCR (bit_or lcr lcr_bits.DLAB.0)) (Opened fifo)
-opens fifo lcr e is a k =
+pub opens : (size : FifoSize) (fifo : Bool) (lcr : ℕ) →
+    Moves size (KnowsAsTaken fifo) (Write offsets.LCR (bit_or lcr lcr_bits.DLAB.0)) (Opened fifo)
+opens size fifo lcr e is a k =
     let s = step_from a e in
     let v : LCR = record { 0 = bit_or lcr lcr_bits.DLAB.0 } in
     let x : s.action ≡ SetsLine v = ap (action a.setup.is_open) is in
     let on = opens_latch lcr in (
-      all_spared a s (six_at a s (SetsLine v) x (record {
+      all_spared size a s (six_at size a s (SetsLine v) x (record {
         room = nothing;
         output = nothing;
         taken = nothing;
@@ -268,14 +268,15 @@ opens fifo lcr e is a k =
       },
     )
 
-from_latch : (a : Auditor) → a.latch.has_looked ≡ false → Spared (when a.latch.has_looked found.ReceivedFromLatch)
+from_latch : {size : FifoSize} → (a : Auditor) → a.latch.has_looked ≡ false → Spared size (when a.latch.has_looked found.ReceivedFromLatch)
 from_latch a e = rw e nothing
 
-reads_divisor : (fifo : Bool) (e : Entry) (a : Auditor) → action a.setup.is_open e.happening ≡ ReadsDivisor → Opened fifo a →
-    NoneIs is_of_calls (all_found a (step_from a e)) × Opened fifo (next a (step_from a e))
-reads_divisor fifo e a x w =
+reads_divisor : (size : FifoSize) (fifo : Bool) (e : Entry) (a : Auditor) → action a.setup.is_open e.happening ≡ ReadsDivisor →
+    Opened fifo a →
+    NoneIs (of_calls size) (all_found a (step_from a e)) × Opened fifo (next a (step_from a e))
+reads_divisor size fifo e a x w =
     let s = step_from a e in (
-      all_spared a s (six_at a s ReadsDivisor x (record {
+      all_spared size a s (six_at size a s ReadsDivisor x (record {
         room = nothing;
         output = nothing;
         taken = nothing;
@@ -292,34 +293,34 @@ reads_divisor fifo e a x w =
       },
     )
 
-pub reads_low : (fifo : Bool) (low : ℕ) → Moves (Opened fifo) (Read offsets.DLL low) (Opened fifo)
-reads_low fifo low e is a w =
-    reads_divisor fifo e a (ap (action a.setup.is_open) is ∙ ap (λ (o : Option Bool). data_read o low) w.opened) w
+pub reads_low : (size : FifoSize) (fifo : Bool) (low : ℕ) → Moves size (Opened fifo) (Read offsets.DLL low) (Opened fifo)
+reads_low size fifo low e is a w =
+    reads_divisor size fifo e a (ap (action a.setup.is_open) is ∙ ap (λ (o : Option Bool). data_read o low) w.opened) w
 
-pub reads_high : (fifo : Bool) (high : ℕ) → Moves (Opened fifo) (Read offsets.DLM high) (Opened fifo)
-reads_high fifo high e is a w =
-    reads_divisor fifo e a (ap (action a.setup.is_open) is ∙ ap (λ (o : Option Bool). ier_read o high) w.opened) w
+pub reads_high : (size : FifoSize) (fifo : Bool) (high : ℕ) → Moves size (Opened fifo) (Read offsets.DLM high) (Opened fifo)
+reads_high size fifo high e is a w =
+    reads_divisor size fifo e a (ap (action a.setup.is_open) is ∙ ap (λ (o : Option Bool). ier_read o high) w.opened) w
 
-never : (b : Bool) (f : Finding) → b ≡ false → Spared (when b f)
+never : {size : FifoSize} → (b : Bool) (f : Finding) → b ≡ false → Spared size (when b f)
 never b f e = rw e nothing
 
-closed_spared : (a : Auditor) (s : Step) → a.latch.has_low ≡ false → Spared (closed a s)
+closed_spared : {size : FifoSize} → (a : Auditor) (s : Step) → a.latch.has_low ≡ false → Spared size (closed a s)
 closed_spared a s e =
     let l = a.latch in
     let f : has_low_alone l ≡ false =
     and_right l.was_opened (not l.has_looked && (l.has_low && not l.has_high))
     (and_right (not l.has_looked) (l.has_low && not l.has_high) (and_left l.has_low (not l.has_high) e)) in
-    let rest : Spared (when (has_low_alone l) found.HighByteNotSet) = never (has_low_alone l) found.HighByteNotSet f in
+    let rest : Spared _ (when (has_low_alone l) found.HighByteNotSet) = never (has_low_alone l) found.HighByteNotSet f in
     spared_if (is_zero s.setup.divisor.low && is_zero s.setup.divisor.high) (Some found.ZeroDivisor)
     (when (has_low_alone l) found.HighByteNotSet) (another {f = found.ZeroDivisor} refl) rest
 
-pub closes_again : (fifo : Bool) (lcr : ℕ) → has lcr lcr_bits.DLAB.0 ≡ false →
-    Moves (Opened fifo) (Write offsets.LCR lcr) (KnowsAsTaken fifo)
-closes_again fifo lcr off e is a w =
+pub closes_again : (size : FifoSize) (fifo : Bool) (lcr : ℕ) → has lcr lcr_bits.DLAB.0 ≡ false →
+    Moves size (Opened fifo) (Write offsets.LCR lcr) (KnowsAsTaken fifo)
+closes_again size fifo lcr off e is a w =
     let s = step_from a e in
     let v : LCR = record { 0 = lcr } in
     let x : s.action ≡ SetsLine v = ap (action a.setup.is_open) is in (
-      all_spared a s (six_at a s (SetsLine v) x (record {
+      all_spared size a s (six_at size a s (SetsLine v) x (record {
         room = nothing;
         output = nothing;
         taken = nothing;
@@ -332,8 +333,8 @@ closes_again fifo lcr off e is a w =
 
 -- ---- LCR is looked at while the latch is open
 
-looks_spared : (a : Auditor) (s : Step) (v : LCR) → s.action ≡ ReadsLine v → NoneIs is_of_calls (all_found a s)
-looks_spared a s v x = all_spared a s (six_at a s (ReadsLine v) x (record {
+looks_spared : (size : FifoSize) (a : Auditor) (s : Step) (v : LCR) → s.action ≡ ReadsLine v → NoneIs (of_calls size) (all_found a s)
+looks_spared size a s v x = all_spared size a s (six_at size a s (ReadsLine v) x (record {
   room = nothing;
   output = nothing;
   taken = nothing;
@@ -343,12 +344,13 @@ looks_spared a s v x = all_spared a s (six_at a s (ReadsLine v) x (record {
 }))
 
 -- and shows that it is
-pub shows_open : (fifo : Bool) (shown : ℕ) → has shown lcr_bits.DLAB.0 ≡ true → Moves (Opened fifo) (Read offsets.LCR shown) (Opened fifo)
-shows_open fifo shown on e is a w =
+pub shows_open : (size : FifoSize) (fifo : Bool) (shown : ℕ) → has shown lcr_bits.DLAB.0 ≡ true →
+    Moves size (Opened fifo) (Read offsets.LCR shown) (Opened fifo)
+shows_open size fifo shown on e is a w =
     let s = step_from a e in
     let v : LCR = record { 0 = shown } in
     let x : s.action ≡ ReadsLine v = ap (action a.setup.is_open) is in (
-      looks_spared a s v x,
+      looks_spared size a s v x,
       record {
         opened = ap (next_is_open a.setup.is_open) x ∙ ap Some on;
         loopback = subst (λ (x : Action). loops_back (option_or (modem_of x) a.setup.modem) ≡ false) (sym x) w.loopback;
@@ -359,22 +361,22 @@ shows_open fifo shown on e is a w =
     )
 
 -- or that it is not
-pub shows_shut : (fifo : Bool) (shown : ℕ) → has shown lcr_bits.DLAB.0 ≡ false →
-    Moves (Opened fifo) (Read offsets.LCR shown) (KnowsAsTaken fifo)
-shows_shut fifo shown off e is a w =
+pub shows_shut : (size : FifoSize) (fifo : Bool) (shown : ℕ) → has shown lcr_bits.DLAB.0 ≡ false →
+    Moves size (Opened fifo) (Read offsets.LCR shown) (KnowsAsTaken fifo)
+shows_shut size fifo shown off e is a w =
     let s = step_from a e in
     let v : LCR = record { 0 = shown } in
     let x : s.action ≡ ReadsLine v = ap (action a.setup.is_open) is in
-    (looks_spared a s v x, knows_at fifo a s (ReadsLine v) x off w.loopback w.room)
+    (looks_spared size a s v x, knows_at fifo a s (ReadsLine v) x off w.loopback w.room)
 
 -- the latch is closed that was not open
-pub stays_shut : (fifo : Bool) (lcr : ℕ) → has lcr lcr_bits.DLAB.0 ≡ false →
-    Moves (KnowsAsTaken fifo) (Write offsets.LCR lcr) (KnowsAsTaken fifo)
-stays_shut fifo lcr off e is a k =
+pub stays_shut : (size : FifoSize) (fifo : Bool) (lcr : ℕ) → has lcr lcr_bits.DLAB.0 ≡ false →
+    Moves size (KnowsAsTaken fifo) (Write offsets.LCR lcr) (KnowsAsTaken fifo)
+stays_shut size fifo lcr off e is a k =
     let s = step_from a e in
     let v : LCR = record { 0 = lcr } in
     let x : s.action ≡ SetsLine v = ap (action a.setup.is_open) is in (
-      all_spared a s (six_at a s (SetsLine v) x (record {
+      all_spared size a s (six_at size a s (SetsLine v) x (record {
         room = nothing;
         output = nothing;
         taken = nothing;
@@ -399,17 +401,18 @@ empties_none reset value None on e room = rw (on, e) refl
 empties_none reset value (Some true) on e room = rw (on, e) refl
 empties_none reset value (Some false) on e room = absurd (omega arith)
 
-reset_spared : (b c : Bool) → c ≡ false → Spared (when (b && c) found.ResetWhileSending)
+reset_spared : {size : FifoSize} → (b c : Bool) → c ≡ false → Spared size (when (b && c) found.ResetWhileSending)
 reset_spared b c e = rw (and_right b c e) nothing
 
-pub sets_level : (value : ℕ) → IsLevel value → Moves (KnowsAsTaken true) (Write offsets.FCR value) (KnowsAsTaken true)
-sets_level value level e is a k =
+pub sets_level : (size : FifoSize) (value : ℕ) → IsLevel value →
+    Moves size (KnowsAsTaken true) (Write offsets.FCR value) (KnowsAsTaken true)
+sets_level size value level e is a k =
     let s = step_from a e in
     let v : FCR = record { 0 = value } in
     let x : s.action ≡ ControlsFifo v = ap (action a.setup.is_open) is in
     let none : (reset : ℕ) → has value reset ≡ false → action_empties reset s.setup.has_fifo (ControlsFifo v) ≡ false =
     λ reset off. empties_none reset value s.setup.has_fifo level.on off k.room in (
-      all_spared a s (six_at a s (ControlsFifo v) x (record {
+      all_spared size a s (six_at size a s (ControlsFifo v) x (record {
         room = nothing;
         output = nothing;
         taken = nothing;

@@ -1,4 +1,5 @@
 -- No warning of a session is without a cause: the twelve that are about how a call is made never come, and the other nine only with theirs.
+use Rattle.std.proofs.Common.{if◌then◌else◌}
 use Rattle.std.proofs.Common.{◌≡◌, ◌≤◌, ℕ, Bool, true, false, not, ◌&&◌, ◌||◌, List, [], ◌∷◌, Option, Some, None, refl, sym, ◌∙◌, subst}
 use Rattle.std.proofs.Common.{arith}
 use Rattle.std.proofs.lemmas.Bool.{or_parts}
@@ -7,6 +8,8 @@ use Rattle.uart_16550.specs.Driver.{Fields, settings_of}
 use Rattle.uart_events.specs.declared.call.Answer.{Answer}
 use Rattle.uart_events.specs.declared.call.Call.{Call}
 use Rattle.uart_calls.specs.Lists.{IsListOf}
+use Rattle.uart_spec.specs.FifoSize.{characters}
+use Rattle.uart_spec.specs.declared.setup.FifoSize.{FifoSize}
 use Rattle.uart_spec.specs.declared.setup.FifoSize.TheVariants.{Sixteen}
 use Rattle.uart_chip.specs.Transmitter.{room}
 use Rattle.uart_judges.specs.Findings.{findings_at, is_held, is_open}
@@ -20,9 +23,10 @@ use Rattle.uart_judges_runs.specs.Calls.{AreTaken, AreTakenFrom, IsSteady, Knows
 use Rattle.uart_judges_runs.specs.Causes.{AreShownFor, AreShownFrom, AsksFor, Causes, IsSetUpFor, KnowsFor}
 use Rattle.uart_judges_runs.specs.Causes.{cause_some, has_cause, is_unfounded, is_warning}
 use Rattle.uart_judges_runs.specs.Lost.{IsSo}
-use Rattle.uart_judges_runs.specs.Recorded.{HasNone, IsNot, NoneIs, accesses_in, is_of_calls}
+use Rattle.uart_judges_runs.specs.Told.{of_fifos}
+use Rattle.uart_judges_runs.specs.Recorded.{HasNone, IsNot, NoneIs, accesses_in, is_of_calls, some_such, told}
 use Rattle.uart_run.proofs.CallBlocks.{most_in}
-use Rattle.uart_judges_runs.proofs.CallLists.{goes_list, list_of, sixteen_at_once}
+use Rattle.uart_judges_runs.proofs.CallLists.{goes_list, list_of, fits_at_once}
 use Rattle.uart_judges_runs.proofs.Founded.{is_of_caller}
 use Rattle.uart_judges_runs.proofs.GoodCalls.{good_list}
 use Rattle.uart_judges_runs.proofs.GoodLists.{Causal}
@@ -32,29 +36,41 @@ use Rattle.uart_judges_runs.proofs.Walks.{Walks, by, founded_walk}
 -- ---- twelve and nine
 
 -- a warning is one of the twelve or of the nine
-neither : (c : Causes) (f : Finding) → is_of_calls f ≡ false → is_of_caller c f ≡ false → is_unfounded c f ≡ false
-neither c (found.SentBeyondRoom sent space) p q = absurd (cc)
-neither c (found.SentIntoLatch byte) p q = absurd (cc)
-neither c (found.SentInBreak byte) p q = q
-neither c (found.SentInLoopback byte) p q = absurd (cc)
-neither c (found.WordTooShort byte) p q = q
-neither c found.SentWithoutCts p q = q
-neither c found.InterruptsCutOff p q = q
-neither c found.ReceivedFromEmpty p q = absurd (cc)
-neither c found.ReceivedWithoutLook p q = absurd (cc)
-neither c found.ErrorsNotRead p q = absurd (cc)
-neither c (found.ErrorsLost arrived) p q = q
-neither c found.ReceivedFromLatch p q = absurd (cc)
-neither c (found.InterruptsIntoLatch value) p q = absurd (cc)
-neither c found.HighByteNotSet p q = absurd (cc)
-neither c found.ZeroDivisor p q = q
-neither c found.FrameChangedWhileSending p q = absurd (cc)
-neither c found.DivisorChangedWhileSending p q = absurd (cc)
-neither c found.ResetWhileSending p q = absurd (cc)
-neither c found.WaitingDiscarded p q = absurd (cc)
-neither c (found.NotServed identified) p q = q
-neither c (found.LeftWithLineUp line) p q = q
-neither c _ p q = refl
+-- bytes beyond the room are told, or fit
+beyond : (c : Causes) (other fits : Bool) (x y : ℕ) (sent : ℕ) →
+    some_such is_of_calls (if other then Some (found.SentBeyondRoom sent x) else if fits then None else Some (found.SentBeyondRoom sent y))
+    ≡ false →
+    some_such (is_unfounded c) (if other then Some (found.SentBeyondRoom sent x) else if fits then None else Some
+    (found.SentBeyondRoom sent y))
+    ≡ false
+beyond c true fits x y sent p = absurd (cc)
+beyond c false true x y sent p = refl
+beyond c false false x y sent p = absurd (cc)
+
+neither : (size : FifoSize) (c : Causes) (f : Finding) → told (characters size) is_of_calls f ≡ false → is_of_caller c f ≡ false →
+    told (characters size) (is_unfounded c) f ≡ false
+neither size c (found.SentBeyondRoom sent space) p q = beyond c _ _ _ _ sent p
+neither size c (found.SentIntoLatch byte) p q = absurd (cc)
+neither size c (found.SentInBreak byte) p q = q
+neither size c (found.SentInLoopback byte) p q = absurd (cc)
+neither size c (found.WordTooShort byte) p q = q
+neither size c found.SentWithoutCts p q = q
+neither size c found.InterruptsCutOff p q = q
+neither size c found.ReceivedFromEmpty p q = absurd (cc)
+neither size c found.ReceivedWithoutLook p q = absurd (cc)
+neither size c found.ErrorsNotRead p q = absurd (cc)
+neither size c (found.ErrorsLost arrived) p q = q
+neither size c found.ReceivedFromLatch p q = absurd (cc)
+neither size c (found.InterruptsIntoLatch value) p q = absurd (cc)
+neither size c found.HighByteNotSet p q = absurd (cc)
+neither size c found.ZeroDivisor p q = q
+neither size c found.FrameChangedWhileSending p q = absurd (cc)
+neither size c found.DivisorChangedWhileSending p q = absurd (cc)
+neither size c found.ResetWhileSending p q = absurd (cc)
+neither size c found.WaitingDiscarded p q = absurd (cc)
+neither size c (found.NotServed identified) p q = q
+neither size c (found.LeftWithLineUp line) p q = q
+neither size c _ p q = refl
 
 -- what is none of the first and none of the second is none of the third
 abbrev Joins : (P Q R : Finding → Bool) → Type 0
@@ -73,9 +89,11 @@ has_none : (P Q R : Finding → Bool) (past entries : List Entry) → Joins P Q 
 has_none P Q R past [] join p q = tt
 has_none P Q R past (e ∷ es) join p q = (none_is P Q R (findings_at e past) join p.0 q.0, has_none P Q R (e ∷ past) es join p.1 q.1)
 
-pub unfounded : (c : Causes) (past entries : List Entry) → HasNone is_of_calls past entries → HasNone (is_of_caller c) past entries →
-    HasNone (is_unfounded c) past entries
-unfounded c past entries p q = has_none is_of_calls (is_of_caller c) (is_unfounded c) past entries (neither c) p q
+pub unfounded : (size : FifoSize) (c : Causes) (past entries : List Entry) → HasNone (told (characters size) is_of_calls) past entries →
+    HasNone (is_of_caller c) past entries → HasNone (told (characters size) (is_unfounded c)) past entries
+unfounded size c past entries p q =
+    has_none (told (characters size) is_of_calls) (is_of_caller c) (told (characters size) (is_unfounded c)) past entries
+    (neither size c) p q
 
 -- without a cause there is no warning at all
 both_off : (on b d : Bool) → (on && (b || d)) ≡ false → ((on && b) ≡ false) × ((on && d) ≡ false)
@@ -114,10 +132,17 @@ causeless c none f e =
     let g : (is_warning f && not (has_cause c f)) ≡ false = e in
     no_warning (is_warning f) (subst (λ (b : Bool). (is_warning f && not b) ≡ false) (none_of c none f) g)
 
-pub causeless_recording : (c : Causes) (past entries : List Entry) → cause_some c ≡ false → HasNone (is_unfounded c) past entries →
-    HasNone is_warning past entries
-causeless_recording c past entries none p =
-    has_none (is_unfounded c) (is_unfounded c) is_warning past entries (λ f q r. causeless c none f q) p p
+some_weaker : (P R : Finding → Bool) (o : Option Finding) → ((f : Finding) → P f ≡ false → R f ≡ false) → some_such P o ≡ false →
+    some_such R o ≡ false
+some_weaker P R None weaker p = refl
+some_weaker P R (Some f) weaker p = weaker f p
+
+pub causeless_recording : (size : FifoSize) (c : Causes) (past entries : List Entry) → cause_some c ≡ false →
+    HasNone (told (characters size) (is_unfounded c)) past entries → HasNone (told (characters size) is_warning) past entries
+causeless_recording size c past entries none p =
+    has_none (told (characters size) (is_unfounded c)) (told (characters size) (is_unfounded c)) (told
+    (characters size) is_warning) past entries
+    (λ f q r. some_weaker (is_unfounded c) is_warning (of_fifos (characters size) f) (λ g h. causeless c none g h) q) p p
 
 -- ---- a list of accesses
 
@@ -168,12 +193,12 @@ settled_at_first c line f a set taken k = record {
 
 pub unfounded_call : (c : Causes) (line : ℕ) (call : Call) (before after : Fields) (accesses : List RegisterAccess) (answer : Answer)
     (past entries : List Entry) → IsSteady call → AsksFor c line call → IsSetUpFor c line before →
-    before.size ≡ Sixteen → IsListOf call before accesses answer after →
+    IsListOf call before accesses answer after →
     AreTaken before.fifo accesses → AreShownFor c line accesses → KnowsAsTaken before.fifo (known past) → KnowsFor c line (known past) →
-    accesses_in entries ≡ accesses → HasNone (is_unfounded c) past entries
-unfounded_call c line call before after accesses answer past entries steady asks set size list taken shown knows knows_for is =
+    accesses_in entries ≡ accesses → HasNone (told (characters before.size) (is_unfounded c)) past entries
+unfounded_call c line call before after accesses answer past entries steady asks set list taken shown knows knows_for is =
     let f : Stage = first before in
-    let twelve = (goes_list before.fifo (most_in (settings_of before)) accesses (sixteen_at_once before size)
+    let twelve = (goes_list before.size before.fifo (most_in (settings_of before)) accesses (fits_at_once before)
     (list_of call before after accesses answer steady list) taken past entries is knows).0 in
     let causal = good_list c line before set call after accesses answer steady asks list before.config.check_cts_before_sending false
     (λ n e. e) in
@@ -181,7 +206,7 @@ unfounded_call c line call before after accesses answer past entries steady asks
     let nine = founded_walk c line set.dlab set.not_in_break f past entries
     (subst (λ (l : List RegisterAccess). Walks c line f l) (sym is) walks)
     (settled_at_first c line before (known past) set knows knows_for) in
-    unfounded c past entries twelve nine
+    unfounded before.size c past entries twelve nine
 
 -- ---- a judge that knows nothing
 

@@ -4,7 +4,7 @@ use Rattle.std.specs.List.{AllByRecursion}
 use Rattle.uart_spec.specs.declared.access.Access.{Access as RegisterAccess}
 use Rattle.uart_spec.specs.declared.errors.FifosOffError.{FifosOffError}
 use Rattle.uart_spec.specs.declared.registers.fifo_trigger_level.FifoTriggerLevel.{FifoTriggerLevel}
-use Rattle.uart_spec.specs.declared.setup.FifoSize.TheVariants.{Sixteen}
+use Rattle.uart_spec.specs.FifoSize.{characters}
 use Rattle.uart_16550.specs.Driver.{Fields, settings_of}
 use Rattle.uart_16550.specs.Setup.{SetsTrigger}
 use Rattle.uart_events.specs.declared.call.Answer.{Answer}
@@ -16,7 +16,7 @@ use Rattle.uart_judges.specs.History.{known}
 use Rattle.uart_judges.specs.declared.recording.entry.Entry.{Entry}
 use Rattle.uart_judges_runs.specs.Calls.{IsSteady, KnowsAsTaken}
 use Rattle.uart_judges_runs.specs.Causes.{AsksFor, Causes, GivesOnly, IsSetUpFor, KnowsFor, is_unfounded}
-use Rattle.uart_judges_runs.specs.Recorded.{HasNone, accesses_in}
+use Rattle.uart_judges_runs.specs.Recorded.{HasNone, accesses_in, told}
 use Rattle.uart_judges_runs.specs.Runs.{IsSession}
 use Rattle.uart_run.proofs.CallBlocks.{most_in}
 use Rattle.uart_judges_runs.proofs.CallLists.{list_of}
@@ -98,22 +98,22 @@ module _ (c : Causes) (line : ℕ) where
 -- ---- and its recording
 
 pub unfounded_session : (c : Causes) (calls : List Call) (fields : Fields) (accesses : List RegisterAccess) (old new : MachineState)
-    (past entries : List Entry) → fields.size ≡ Sixteen → GivesOnly c calls fields old →
+    (past entries : List Entry) → GivesOnly c calls fields old →
     IsSession calls fields old accesses new →
     KnowsAsTaken fields.fifo (known past) → KnowsFor c old.chip.latches.lcr (known past) → accesses_in entries ≡ accesses →
-    HasNone (is_unfounded c) past entries
-unfounded_session c calls fields accesses old new past entries size gives session knows knows_for is =
+    HasNone (told (characters fields.size) (is_unfounded c)) past entries
+unfounded_session c calls fields accesses old new past entries gives session knows knows_for is =
     let line = old.chip.latches.lcr in
     let s : Stage = first fields in
     let begins = gives.begins in
     let set = gives.set_up in
     let o : OpenIn fields.fifo old = record { dlab = begins.dlab; loopback = begins.loopback; fifos = begins.fifo } in
     let latched : IsLatchedFor c old.chip.latches = record { interrupts = gives.interrupts; out2 = gives.out2 } in
-    let twelve = (goes_session calls fields old new accesses size o session past entries is knows).0 in
+    let twelve = (goes_session calls fields old new accesses o session past entries is knows).0 in
     let walks : Walks c line s accesses =
     walks_session c line calls fields old new accesses set o (record { lcr = refl; latched = latched }) gives.asks session
     fields.config.check_cts_before_sending false (λ n e. e) in
     let nine = founded_walk c line set.dlab set.not_in_break s past entries
     (subst (λ (l : List RegisterAccess). Walks c line s l) (sym is) walks)
     (settled_at_first c line fields (known past) set knows knows_for) in
-    unfounded c past entries twelve nine
+    unfounded fields.size c past entries twelve nine

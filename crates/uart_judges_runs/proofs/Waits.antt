@@ -11,8 +11,9 @@ use Rattle.uart_chip.specs.Receiver.{ReceiverState, come_back, enter, replace}
 use Rattle.uart_events.specs.declared.event.ArrivalMark.TheVariants.{Dropped}
 use Rattle.uart_chip.specs.Receiver as receiver
 use Rattle.uart_chip.specs.Sound.{IsSound}
-use Rattle.uart_spec.specs.declared.setup.FifoSize.TheVariants.{Sixteen}
+use Rattle.uart_spec.specs.declared.setup.FifoSize.{FifoSize}
 use Rattle.uart_chip.specs.Transmitter.{looped_byte, room}
+use Rattle.uart_chip.proofs.lasting.FifoSizes.{same_size-access}
 use Rattle.uart_chip.proofs.lasting.Lasting.{LastsInEvents, chip_lasts-before}
 use Rattle.uart_run.proofs.Latches.{Kept, kept_access}
 use Rattle.uart_judges.specs.declared.audit.auditor.Auditor.{Auditor}
@@ -102,13 +103,13 @@ at_the_access a left m sound k =
       fifos = fifos_as c d a.setup.has_fifo fifo k.fifos;
       trigger = trigger_as c d a.setup.trigger w.trigger k.trigger;
       waiting = w.at_least;
-      sent = grown d.fifo fifo;
+      sent = grown d.fifo d.transmitter.size fifo (same_size-access m).transmitter;
     }
   where
-    grown : (fifo : Bool) → fifo ≡ m.chip.fifo → min a.sent (room fifo Sixteen) ≤
+    grown : (fifo : Bool) (size : FifoSize) → fifo ≡ m.chip.fifo → size ≡ m.chip.transmitter.size → min a.sent (room fifo size) ≤
         length (at_access m).chip.transmitter.queue +
         (left + (length m.chip.transmitter.queue - length (at_access m).chip.transmitter.queue))
-    grown fifo e =
-        rw e
-        (left_grows a.sent (room m.chip.fifo Sixteen) (length (at_access m).chip.transmitter.queue) left
+    grown fifo size e z =
+        rw (e, z)
+        (left_grows a.sent (room m.chip.fifo m.chip.transmitter.size) (length (at_access m).chip.transmitter.queue) left
         (length m.chip.transmitter.queue) k.sent)

@@ -7,7 +7,6 @@ use Rattle.uart_spec.specs.declared.registers.interrupt_status.TheConstants.ISR
 use Rattle.uart_spec.specs.declared.registers.line_control.TheConstants.LCR
 use Rattle.uart_spec.specs.declared.registers.modem_control.TheConstants.MCR
 use Rattle.uart_spec.specs.declared.registers.offsets.TheConstants as offsets
-use Rattle.uart_16550.specs.Driver.{Fields}
 use Rattle.uart_events.specs.declared.call.Call.{Call}
 use Rattle.uart_events.specs.declared.call.Call.TheVariants as call
 use Rattle.uart_spec.specs.declared.setup.FifoSize.TheVariants.{Sixteen}
@@ -37,10 +36,6 @@ IsSteady other = Unit {0}
 abbrev pub opened_by : Access → Bool → Bool
 opened_by (Write register value) before = if register == offsets.LCR then has value LCR.DLAB.0 else before
 opened_by (Read register answer) before = before
-
--- the driver takes the FIFOs for 16, as one does that was told no size, and as the judge does
-abbrev pub TakesThemForSixteen : Fields → Type 0
-TakesThemForSixteen f = f.size ≡ Sixteen
 
 -- what is read shows DLAB off, unless it was on in the latest write of LCR; loopback off; and the FIFOs on or off as
 -- they are taken to be

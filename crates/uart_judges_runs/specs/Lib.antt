@@ -1,3 +1,4 @@
+pub mod Told
 pub mod Recorded
 pub mod Calls
 pub mod Runs

@@ -4,6 +4,7 @@ use Rattle.std.specs.Prelude.{◌++◌, Option, Some, None, if◌then◌else◌}
 use Rattle.std.specs.List.{AllByRecursion}
 use Rattle.uart_spec.specs.Access.{Path}
 use Rattle.uart_spec.specs.Bits.{has}
+use Rattle.uart_spec.specs.FifoSize.{characters}
 use Rattle.uart_spec.specs.declared.access.Access.{Access as RegisterAccess}
 use Rattle.uart_spec.specs.declared.access.Access.TheVariants.{Read, Write}
 use Rattle.uart_spec.specs.declared.registers.modem_control.TheConstants.MCR
@@ -14,11 +15,12 @@ use Rattle.uart_events.specs.declared.event.Event.TheVariants as scheduled
 use Rattle.uart_chip.specs.Chip.{ChipState, arrive, is_dlab_set, is_loopback}
 use Rattle.uart_chip.specs.Machine.{MachineState, MachineStep, at_access, perform}
 use Rattle.uart_chip.specs.Switching.{NeverSwitches}
-use Rattle.uart_spec.specs.declared.setup.FifoSize.TheVariants.{Sixteen}
+use Rattle.uart_spec.specs.declared.setup.FifoSize.{FifoSize}
 use Rattle.uart_chip.specs.Transmitter.{room}
 use Rattle.uart_judges.specs.Findings.{findings_at}
 use Rattle.uart_judges.specs.History.{known, step_from}
 use Rattle.uart_judges.specs.Steps.{shows_room}
+use Rattle.uart_judges_runs.specs.Told.{of_fifos}
 use Rattle.uart_judges.specs.declared.audit.auditor.Auditor.{Auditor}
 use Rattle.uart_judges.specs.declared.audit.finding.Finding.{Finding}
 use Rattle.uart_judges.specs.declared.audit.finding.Finding.TheVariants as found
@@ -47,14 +49,12 @@ pub record KnowsWhatIs (a : Auditor) (left : ℕ) (c : ChipState) : Type 0 where
   pub waiting : a.waiting ≤ length c.receiver.queue
   -- the bytes that the judge counts as sent, up to those that there is room for, are in the transmitter's queue, but
   -- for so many that have left it since
-  pub sent : min a.sent (room c.fifo Sixteen) ≤ length c.transmitter.queue + left
+  pub sent : min a.sent (room c.fifo c.transmitter.size) ≤ length c.transmitter.queue + left
 
 -- the same, and it does know DLAB
 pub record KnowsDlab (a : Auditor) (left : ℕ) (c : ChipState) : Type 0 where
   pub knows : KnowsWhatIs a left c
   pub dlab : a.setup.is_open ≡ Some (is_dlab_set c.latches)
-
--- The judge takes FIFOs for 16, and sees no switch of their size.
 
 -- these accesses leave the size of the FIFOs as it is: the chip has no switch of it, or none of them writes FCR while
 -- DLAB is set
@@ -88,7 +88,7 @@ StaysOnWire wire m =
 -- which as many bytes waited as the judge knows of, and one at least
 abbrev pub Loses : Finding → Auditor → (left : ℕ) → ChipState → MachineState → Type 0
 Loses (found.SentBeyondRoom sent space) a left c n =
-    (room c.fifo Sixteen ≤ length c.transmitter.queue + left) × (left ≡ 0 → IsDropped c n.chip)
+    (room c.fifo c.transmitter.size ≤ length c.transmitter.queue + left) × (left ≡ 0 → IsDropped c n.chip)
 Loses (found.SentIntoLatch byte) a left c n = n.chip.transmitter ≡ c.transmitter
 Loses (found.SentInLoopback byte) a left c n = StaysOnWire c.transmitter.wire n
 Loses found.ResetWhileSending a left c n =
@@ -97,8 +97,14 @@ Loses found.WaitingDiscarded a left c n =
     (1 ≤ a.waiting) × (a.waiting ≤ length c.receiver.queue) × (n.chip.receiver.queue ≡ [])
 Loses _ a left c n = Unit {0}
 
+-- what the judge tells of a finding that was told this size
+abbrev pub told_of : FifoSize → Option Finding → Option Finding
+told_of size None = None
+told_of size (Some finding) = of_fifos (characters size) finding
+
+-- the judge was told the size of the chip's FIFOs
 abbrev pub LosesIf : Option Finding → Auditor → (left : ℕ) → ChipState → MachineState → Type 0
-LosesIf finding a left c n = IsSo finding (λ finding. Loses finding a left c n)
+LosesIf finding a left c n = IsSo (told_of c.transmitter.size finding) (λ finding. Loses finding a left c n)
 
 abbrev pub AllLose : List (Option Finding) → Auditor → (left : ℕ) → ChipState → MachineState → Type 0
 AllLose [] a left c n = Unit {0}

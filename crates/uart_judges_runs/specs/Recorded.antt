@@ -1,7 +1,8 @@
 -- What the judge finds at the entries of a recording, one after the other.
-use Rattle.std.specs.Prelude.{◌≡◌, Bool, true, false, List, [], ◌∷◌, ◌++◌, Option, Some, None}
+use Rattle.std.specs.Prelude.{◌≡◌, ℕ, Bool, true, false, List, [], ◌∷◌, ◌++◌, Option, Some, None}
 use Rattle.uart_spec.specs.declared.access.Access.{Access as RegisterAccess}
 use Rattle.uart_judges.specs.Findings.{findings_at}
+use Rattle.uart_judges_runs.specs.Told.{of_fifos}
 use Rattle.uart_judges.specs.declared.audit.finding.Finding.{Finding}
 use Rattle.uart_judges.specs.declared.audit.finding.Finding.TheVariants as found
 use Rattle.uart_judges.specs.declared.recording.entry.Entry.{Entry}
@@ -39,6 +40,15 @@ is_of_calls found.DivisorChangedWhileSending = true
 is_of_calls found.ResetWhileSending = true
 is_of_calls found.WaitingDiscarded = true
 is_of_calls _ = false
+
+-- there is one, and it is such a finding
+abbrev pub some_such : (Finding → Bool) → Option Finding → Bool
+some_such is_such None = false
+some_such is_such (Some finding) = is_such finding
+
+-- the judge, which was told that the FIFOs have room for so many bytes, tells such a finding
+abbrev pub told : (space : ℕ) → (Finding → Bool) → Finding → Bool
+told space is_such finding = some_such is_such (of_fifos space finding)
 
 -- none of these is such a finding
 abbrev pub IsNot : (Finding → Bool) → Option Finding → Type 0

@@ -6,7 +6,7 @@ ghost use Rattle.std.specs.List.{AllByRecursion};
 ghost use Rattle.uart_spec.specs.declared.access.Access.{Access};
 ghost use Rattle.uart_spec.specs.declared.access.Access.TheVariants.{Read, Write};
 ghost use Rattle.uart_spec.specs.declared.registers.offsets.TheConstants as offsets;
-ghost use Rattle.uart_spec.specs.declared.setup.FifoSize.TheVariants.{Sixteen};
+ghost use Rattle.uart_spec.specs.FifoSize.{characters};
 ghost use Rattle.uart_spec.specs.declared.config.Config.{Config};
 ghost use Rattle.uart_spec.specs.declared.registers.frame.WordLength.TheVariants.{EightBits};
 ghost use Rattle.uart_16550.specs.Driver.{Fields, fields};
@@ -24,74 +24,74 @@ ghost use Rattle.uart_judges.specs.History.{known};
 ghost use Rattle.uart_judges.specs.declared.recording.entry.Entry.{Entry};
 ghost use Rattle.uart_judges.specs.declared.recording.entry.Happening.TheVariants as happening;
 ghost use Rattle.uart_judges_runs.specs.Calls.{IsSteady, AreTaken, KnowsAsTaken};
-ghost use Rattle.uart_judges_runs.specs.Calls.{TakesThemForSixteen};
 ghost use Rattle.uart_judges_runs.specs.Causes.{AreShownFor, AsksFor, Causes, Fits, GivesOnly};
 ghost use Rattle.uart_judges_runs.specs.Causes.{IsConfiguredFor, IsSetUpFor, KnowsFor, cause_some};
 ghost use Rattle.uart_judges_runs.specs.Causes.{is_unfounded, is_warning};
 ghost use Rattle.uart_judges_runs.specs.Lost.{IsRight, KnowsDlab, KnowsWhatIs, LeaveSize};
 ghost use Rattle.uart_judges_runs.specs.Recorded.{AreRecorded, HasNone, accesses_in, is_of_calls};
+ghost use Rattle.uart_judges_runs.specs.Recorded.{told};
 ghost use Rattle.uart_judges_runs.specs.Runs.{IsOpenTo, IsSession};
 ghost use Rattle.uart_calls.specs.Lists.{IsListOf};
 
 /// Of each call in a session, over whatever backend: the recording of its accesses has no finding
 /// that is about how a call is made, with whatever happens between them. The chip is to show
 /// loopback off, DLAB off unless the call has just set it, and the FIFOs as the driver takes them
-/// to be. The judge takes FIFOs for 16, and the driver is one that does so too, here and below: one
-/// that takes them for larger writes more after a look.
+/// to be. Here and below the judge was told the size that the driver takes the FIFOs for
+/// ([`of_fifos`](../specs/Told.antt)). One that was told none takes them for 16, as such a driver
+/// does.
 pub fn calls_are_not_warned()
     // promise: no warning about how a call is made comes of our own driver's calls that neither set
     //   up, change modes nor test (`IsSteady`), over the software chip, whatever the schedule, if
-    //   the driver takes the FIFOs for 16, as the audit does
+    //   the audit was told the size that the driver takes the FIFOs for
     // with: calls_are_not_warned, sessions_are_not_warned
     // shown by: our_own_driver_has_no_warning
     // refused: clear_cts_is_never_ignored, the_driver_may_be_wrong_about_the_fifos,
-    //   lcr_shows_what_it_likes
+    //   lcr_shows_what_it_likes, the_audit_is_told_no_size
     // proved: Over any backend, no recording of such a call has one of these, if what is read shows
     //   loopback off, DLAB off unless it was on in the latest write of LCR, and the FIFOs as the
-    //   driver takes them to be, and the driver takes them for 16, as the judge does
+    //   driver takes them to be
     // on: `laws::calls_are_not_warned`
     ensures { (call : Call) (before after : Fields) (accesses : List Access) (answer : Answer)
-        (past entries : List Entry) → TakesThemForSixteen before → IsSteady call →
+        (past entries : List Entry) → IsSteady call →
         IsListOf call before accesses answer after → AreTaken before.fifo accesses →
         KnowsAsTaken before.fifo (known past) → AreRecorded accesses entries →
-        HasNone is_of_calls past entries }
+        HasNone (told (characters before.size) is_of_calls) past entries }
 {}
 
 /// Of a session over the software chip, whatever its schedule: its recording has no such finding.
 pub fn sessions_are_not_warned()
     // proved: Over the software chip no recording of such calls in turn has one of these, whatever
     //   the schedule, if DLAB and loopback are off before the first, and the driver takes
-    //   the FIFOs to be as they are, and for 16
+    //   the FIFOs to be on or off as they are
     // on: `laws::sessions_are_not_warned`
     ensures { (calls : List Call) (fields : Fields) (accesses : List Access)
-        (old new : MachineState) (past entries : List Entry) → TakesThemForSixteen fields →
+        (old new : MachineState) (past entries : List Entry) →
         IsOpenTo fields old → IsSession calls fields old accesses new →
         KnowsAsTaken fields.fifo (known past) → AreRecorded accesses entries →
-        HasNone is_of_calls past entries }
+        HasNone (told (characters fields.size) is_of_calls) past entries }
 {}
 
 /// Of each call in a session, over whatever backend: each warning in the recording of its accesses
 /// has one of these causes, if the call, the driver and what is read give no other.
 pub fn warned_calls_have_a_cause()
     // promise: each other warning of such calls has a cause that its caller gave, whatever the
-    //   schedule, if the driver takes the FIFOs for 16; `frame-changed` has none, and there is no
-    //   warning if the caller gave no cause
+    //   schedule; `frame-changed` has none, and there is no warning if the caller gave no cause
     // with: warned_calls_have_a_cause, warned_sessions_have_a_cause, an_init_gives_no_other_cause,
     //   nothing_is_known_at_first
     // shown by: our_own_driver_has_no_warning
     // refused: lcr_may_have_a_break, a_call_may_enable_interrupts, errors_stay_without_fifos,
     //   cts_is_known_at_first, a_configuration_may_leave_cts
     // proved: Over any backend, no recording of a call has a warning without one of its causes, if
-    //   the driver takes the FIFOs for 16 and what is read gives no other: LCR is as it was written
-    //   last, no interrupt is enabled or pending, and OUT2 is on
+    //   what is read gives no other: LCR is as it was written last, no interrupt is enabled or
+    //   pending, and OUT2 is on
     // on: `laws::warned_calls_have_a_cause`
     ensures { (causes : Causes) (line : ℕ) (call : Call) (before after : Fields)
         (accesses : List Access) (answer : Answer) (past entries : List Entry) → IsSteady call →
-        AsksFor causes line call → IsSetUpFor causes line before → TakesThemForSixteen before →
+        AsksFor causes line call → IsSetUpFor causes line before →
         IsListOf call before accesses answer after → AreTaken before.fifo accesses →
         AreShownFor causes line accesses → KnowsAsTaken before.fifo (known past) →
         KnowsFor causes line (known past) → AreRecorded accesses entries →
-        HasNone (is_unfounded causes) past entries }
+        HasNone (told (characters before.size) (is_unfounded causes)) past entries }
 {}
 
 /// Of a session over the software chip, whatever its schedule: each warning in its recording has
@@ -99,7 +99,7 @@ pub fn warned_calls_have_a_cause()
 /// there is no warning.
 pub fn warned_sessions_have_a_cause()
     // proved: Over the software chip no recording of calls in turn has a warning without one of its
-    //   causes, whatever the schedule, if the driver takes the FIFOs for 16
+    //   causes, whatever the schedule
     // on: `laws::warned_sessions_have_a_cause`: `caused`
     // proved: If none of these causes is there (`cause_some`), there is no warning: with eight data
     //   bits, no break, the FIFOs on, CTS checked, a divisor that is not zero, and no interrupt
@@ -109,18 +109,18 @@ pub fn warned_sessions_have_a_cause()
     // has one of the causes that the caller gave: the README of the crate has them
     ensures caused { (causes : Causes) (calls : List Call) (fields : Fields)
         (accesses : List Access) (old new : MachineState) (past entries : List Entry) →
-        TakesThemForSixteen fields → GivesOnly causes calls fields old →
-        IsSession calls fields old accesses new →
+        GivesOnly causes calls fields old → IsSession calls fields old accesses new →
         KnowsAsTaken fields.fifo (known past) → KnowsFor causes old.chip.latches.lcr (known past) →
-        AreRecorded accesses entries → HasNone (is_unfounded causes) past entries }
+        AreRecorded accesses entries →
+        HasNone (told (characters fields.size) (is_unfounded causes)) past entries }
     // if none of the causes is there, there is no warning
     // if: the causes cause no warning
     ensures none { (causes : Causes) (calls : List Call) (fields : Fields)
         (accesses : List Access) (old new : MachineState) (past entries : List Entry) →
-        cause_some causes ≡ false → TakesThemForSixteen fields → GivesOnly causes calls fields old →
+        cause_some causes ≡ false → GivesOnly causes calls fields old →
         IsSession calls fields old accesses new → KnowsAsTaken fields.fifo (known past) →
         KnowsFor causes old.chip.latches.lcr (known past) → AreRecorded accesses entries →
-        HasNone is_warning past entries }
+        HasNone (told (characters fields.size) is_warning) past entries }
 {}
 
 /// After an `init` that succeeds: what a session begins with gives no cause but those of the
@@ -151,24 +151,22 @@ pub fn nothing_is_known_at_first()
     ensures causes { (causes : Causes) (line : ℕ) → KnowsFor causes line (known []) }
 {}
 
-/// Of a recording of the software chip, a 16550A with FIFOs of 16 under any schedule, made by any
-/// driver: each finding that says that a byte is lost names an access that loses it on the chip.
-/// What the judge knows at the beginning is to be so. No access of the recording switches the size
-/// of the FIFOs, as on a 16750: the judge takes them for 16.
+/// Of a recording of the software chip, a 16550A under any schedule, made by any driver: each
+/// finding that says that a byte is lost names an access that loses it on the chip. The judge was
+/// told the size of its FIFOs, and what it knows at the beginning is to be so. No access of the
+/// recording switches the size, as on a 16750.
 pub fn lost_bytes_are_lost()
-    // promise: a warning that a byte is lost names an access that loses it on a 16550A in software
-    //   with FIFOs of 16, whatever the schedule and the driver, if no access switches the size of
-    //   the FIFOs; one that says 'may' names one that loses it unless the transmitter sent
-    //   meanwhile
+    // promise: a warning that a byte is lost names an access that loses it on a 16550A in software,
+    //   if the audit was told the size of its FIFOs and no access switches it; one that says 'may',
+    //   unless the transmitter sent meanwhile
     // with: lost_bytes_are_lost, any_piece_is_enough, one_access_is_enough
     // shown by: a_byte_beyond_the_room_is_dropped, a_seventeenth_byte_can_still_fit,
     //   an_emptied_receiver_has_nothing
     // refused: a_byte_beyond_the_room_is_always_dropped, one_more_byte_is_discarded,
-    //   the_fifos_may_be_switched
-    // if: the FIFOs are of 16, for which the judge takes them
+    //   the_fifos_may_be_switched, the_judge_is_told_no_size
     ensures { (past entries : List Entry) (left : ℕ) (machine : MachineState) → IsSound machine →
-        machine.chip.transmitter.size ≡ Sixteen → LeaveSize machine (accesses_in entries) →
-        KnowsWhatIs (known past) left machine.chip → IsRight past left machine entries }
+        LeaveSize machine (accesses_in entries) → KnowsWhatIs (known past) left machine.chip →
+        IsRight past left machine entries }
 {}
 
 /// A judge that was given nothing knows nothing that is not so: a recording may begin anywhere.

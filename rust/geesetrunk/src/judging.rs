@@ -394,8 +394,22 @@ struct ChipJudge {
     replayer: Replayer,
     // Whether the last read of ISR showed both bits of the FIFOs, and FCR was not written since.
     has_fifo_bits: bool,
+    // Whether the last access was a write of FCR, and whether LCR was written since the last one.
+    is_behind_fcr: bool,
+    has_written_lcr: bool,
+    // A difference at a read of ISR that a reset explains, if the accesses behind it set the chip up before a byte moves.
+    doubt: Option<Found>,
     // Whether the recording has a reset: then it has all of them.
     has_resets: bool,
+}
+
+// Whether a reset that the recording does not have explains that ISR shows no FIFOs, which FCR has turned on.
+#[derive(Clone, Copy, PartialEq, Eq)]
+enum Explains {
+    No,
+    Yes,
+    // What follows says it.
+    Later,
 }
 
 // The bits of ISR that show whether the FIFOs are on.
@@ -412,16 +426,54 @@ impl ChipJudge {
             // A reset leaves what the chip's maker chose, and not what the model has at power-on.
             replayer: Replayer::new(known.chip.model, Start::InUse),
             has_fifo_bits: false,
+            is_behind_fcr: false,
+            has_written_lcr: false,
+            doubt: None,
             has_resets: false,
         }
     }
 
-    // Begins anew: the chip was reset.
-    fn reset(&mut self) {
+    // Begins anew: the chip was reset. Returns what was not decided before.
+    fn reset(&mut self) -> Option<Found> {
         let known = self.known;
+        let doubt = self.end();
         *self = ChipJudge::new(&known);
         self.audited.auditor.seen = known.auditor_after_reset();
         self.has_resets = true;
+        doubt
+    }
+
+    // Returns what is not decided at the end.
+    fn end(&mut self) -> Option<Found> {
+        self.doubt.take().map(after_reset)
+    }
+
+    // Takes down what was in doubt, if this access decides it. After a reset LCR and FCR are written before a byte moves, and before
+    // whatever else the driver does.
+    fn settle(&mut self, access: Access, found: &mut Vec<Found>) {
+        let is_reset = match access {
+            Access::Write(offsets::LCR | offsets::FCR, _) => true,
+            Access::Read(offsets::DATA, _) | Access::Write(offsets::DATA, _) => false,
+            _ => return,
+        };
+        let doubt = self.doubt.take();
+        found.extend(doubt.map(|doubt| if is_reset { after_reset(doubt) } else { doubt }));
+    }
+
+    // Returns whether a reset explains what this read of ISR shows, if it breaks the rule on the bits of the FIFOs.
+    fn explains(&self, answer: u8, had_fifo_bits: bool) -> Explains {
+        if self.has_resets || answer & FIFO_BITS != 0 {
+            Explains::No
+        } else if had_fifo_bits || self.has_written_lcr {
+            // A chip that has shown that its FIFOs are on, and then shows that they are off, was reset with its machine, or is wrong: a
+            // log without resets does not say which. A set-up between the two says as little.
+            Explains::Yes
+        } else if self.is_behind_fcr {
+            // No machine begins with a read of ISR.
+            Explains::No
+        } else {
+            Explains::Later
+        }
     }
 
     // Follows an access, and tells what the chip could not have returned.
@@ -431,7 +483,10 @@ impl ChipJudge {
                 self.read(offset, answer, entry, found);
             }
             Happening::Access(Access::Write(offset, value)) => {
-                self.has_fifo_bits &= offset != offsets::FCR;
+                let is_fcr = offset == offsets::FCR;
+                self.has_fifo_bits &= !is_fcr;
+                self.is_behind_fcr = is_fcr;
+                self.has_written_lcr = !is_fcr && (self.has_written_lcr || offset == offsets::LCR);
                 self.replayer.write(offset, value);
             }
             _ => {}
@@ -444,16 +499,21 @@ impl ChipJudge {
         if offset == offsets::ISR {
             self.has_fifo_bits = answer & FIFO_BITS == FIFO_BITS;
         }
-        // A chip that has shown that its FIFOs are on, and then shows that they are off, was reset with its machine, or is wrong: a log
-        // without resets does not say which.
-        let may_be_reset = !self.has_resets && had_fifo_bits && answer & FIFO_BITS == 0;
+        let explains = self.explains(answer, had_fifo_bits);
+        self.is_behind_fcr = false;
+        let doubt = &mut self.doubt;
         let mut tell = |difference: Option<Difference>, times| {
-            if let (Some(difference), 1..) = (difference, times) {
-                let kind = match difference.rule {
-                    Rule::FifoBits if may_be_reset => Kind::AfterReset(difference),
-                    _ => Kind::Difference(difference),
-                };
-                found.push(Found { line, kind, times });
+            let (Some(difference), 1..) = (difference, times) else {
+                return;
+            };
+            let kind = Kind::Difference(difference);
+            let told = Found { line, kind, times };
+            match explains {
+                Explains::Yes if difference.rule == Rule::FifoBits => found.push(after_reset(told)),
+                Explains::Later if difference.rule == Rule::FifoBits => {
+                    found.extend(doubt.replace(told).map(after_reset));
+                }
+                _ => found.push(told),
             }
         };
         // Most reads are not repeated.
@@ -495,13 +555,26 @@ impl ChipJudge {
     // Returns what is found at an entry. What the recording contradicts says more than that the
     // chip never returns it, so that comes first, and alone.
     fn step(&mut self, entry: &Entry, found: &mut Vec<Found>) {
+        if let Happening::Access(access) = entry.happening {
+            self.settle(access, found);
+        }
         let is_contradicted = self.contradictions(entry, found);
         let before = found.len();
         self.differences(entry, found);
         if is_contradicted {
             found.truncate(before);
+            self.doubt.take_if(|doubt| doubt.line == entry.line);
         }
     }
+}
+
+// A difference that a reset explains, which the log would have to have.
+fn after_reset(found: Found) -> Found {
+    let kind = match found.kind {
+        Kind::Difference(difference) => Kind::AfterReset(difference),
+        kind => kind,
+    };
+    Found { kind, ..found }
 }
 
 /// One of the judges, by itself.
@@ -526,7 +599,10 @@ impl OneJudge {
     pub fn reset(&mut self) {
         match &mut self.0 {
             Which::Driver(driver) => driver.reset(),
-            Which::Chip(chip) => chip.reset(),
+            Which::Chip(chip) => {
+                // Each entry has left nothing in doubt.
+                chip.reset();
+            }
         }
     }
 
@@ -536,7 +612,11 @@ impl OneJudge {
             Which::Driver(driver) => {
                 driver.step(entry, |kind, times| take_down(found, entry, kind, times));
             }
-            Which::Chip(chip) => chip.step(entry, found),
+            Which::Chip(chip) => {
+                chip.step(entry, found);
+                // Whoever looks for it wants the entry at which it is seen, whatever what follows says of it.
+                found.extend(chip.end());
+            }
         }
     }
 }
@@ -628,10 +708,14 @@ pub fn judge_recording(
 ) -> Result<Judged, Stop> {
     if judge == Judge::Replay {
         let mut chip = ChipJudge::new(known);
-        return judge_entries(reader, &mut tell, &mut |next, found| match next {
+        let judged = judge_entries(reader, &mut tell, &mut |next, found| match next {
             Next::Entry(entry) => chip.step(entry, found),
-            Next::Reset(_) => chip.reset(),
-        });
+            Next::Reset(_) => found.extend(chip.reset()),
+        })?;
+        if let Some(found) = chip.end() {
+            tell(&found).map_err(Stop::Output)?;
+        }
+        return Ok(judged);
     }
     let mut driver = DriverJudge::new(*known);
     let judged = judge_entries(reader, &mut tell, &mut |next, found| match next {

@@ -314,6 +314,22 @@ mod tests {
         assert_eq!(shrunk("w 3 83\nr 5 60\nz\nw 0 41\n", None), None);
     }
 
+    // What follows the read says whether it is a fault of the chip, and is not needed to show it.
+    #[test]
+    fn what_is_decided_later_is_found_where_it_is_seen() {
+        let uses = "r 5 60\nw 0 41\n".repeat(50);
+        for recording in [
+            format!("w 2 07\n{uses}r 2 01\n{uses}"),
+            format!("z\nw 2 07\n{uses}r 2 01\n"),
+        ] {
+            let piece = "w 2 07\nr 2 01\n".into();
+            assert_eq!(
+                shrunk(&recording, Some("fifo-bits")),
+                Some(("fifo-bits", piece))
+            );
+        }
+    }
+
     #[test]
     fn an_empty_recording_is_no_recording_without_warnings() {
         let resets = Resets::default();

@@ -2,15 +2,17 @@
 
 use geesetrunk::heap;
 use geesetrunk::judging::Audited;
+use geesetrunk::known::{Fifo, Known};
 use uart_judges::audit::{Finding, Severity};
 use uart_judges::recording::{Entry, Happening};
 use uart_spec::access::Access;
 use uart_trace::{Listener, tell};
 
-// Gives the accesses of a run to the auditor, and keeps the faults.
+// Gives the accesses of a run to the auditor, which was told the size that the driver takes the FIFOs for, and keeps the faults.
 #[derive(Default)]
 struct Judged {
     audited: Audited,
+    known: Known,
     accesses: u64,
     faults: Vec<(u64, Finding)>,
 }
@@ -27,11 +29,12 @@ impl Listener for Judged {
             time: None,
             interrupt: None,
         };
-        let faults = &mut self.faults;
+        let (faults, known) = (&mut self.faults, self.known);
         self.audited.step(&event, |findings, _| {
-            let faulty = findings.iter().flatten();
-            let faulty = faulty.filter(|finding| finding.severity() != Severity::Note);
-            faults.extend(faulty.map(|&finding| (event.line, finding)));
+            let found = findings.iter().flatten();
+            let told = found.filter_map(|&finding| known.adapted(finding));
+            let faulty = told.filter(|finding| finding.severity() != Severity::Note);
+            faults.extend(faulty.map(|finding| (event.line, finding)));
         });
     }
 
@@ -70,7 +73,7 @@ fn event(numbers: &mut Numbers) -> String {
 // that each word length has room for it.
 fn call(numbers: &mut Numbers) -> String {
     let byte = format!("{:02x}", numbers.below(128));
-    let bytes = byte.repeat(1 + numbers.below(20) as usize);
+    let bytes = byte.repeat(1 + numbers.below(64) as usize);
     let count = numbers.below(20);
     match numbers.below(12) {
         0 => format!("send {bytes}"),
@@ -108,7 +111,7 @@ fn call(numbers: &mut Numbers) -> String {
     }
 }
 
-fn script(numbers: &mut Numbers) -> String {
+fn script(numbers: &mut Numbers, size: u16) -> String {
     let mut lines = vec![
         format!(
             "chip {} {} {}",
@@ -117,6 +120,7 @@ fn script(numbers: &mut Numbers) -> String {
             1000 * numbers.below(2)
         ),
         format!("limit {}", 1 + numbers.below(300)),
+        format!("fifo-size {size}"),
     ];
     for _ in 0..numbers.below(40) {
         lines.push(event(numbers));
@@ -146,8 +150,18 @@ fn our_own_driver_has_no_warning() {
     let runs = std::env::var("RUNS").map_or(2000, |runs| runs.parse().unwrap());
     let mut accesses = 0;
     for seed in 1..=runs {
-        let script = script(&mut Numbers(seed));
-        let judged = tell(heap(), script.as_bytes(), Judged::default());
+        let mut numbers = Numbers(seed);
+        let size = [16, 32, 64, 128, 256][numbers.below(5) as usize];
+        let script = script(&mut numbers, size);
+        let known = Known {
+            fifo: Some(Fifo::Bytes(size)),
+            ..Known::default()
+        };
+        let judged = Judged {
+            known,
+            ..Judged::default()
+        };
+        let judged = tell(heap(), script.as_bytes(), judged);
         let Ok(judged) = judged else {
             panic!("{script}");
         };

@@ -112,6 +112,38 @@ fn a_reboot_is_no_fault_of_the_chip() {
     }
 }
 
+// GRUB turns the FIFOs on and never reads ISR. The firmware of the next boot reads it before it sets anything up.
+#[test]
+fn a_reboot_behind_a_driver_that_never_read_isr_is_no_fault_of_the_chip() {
+    let boot = "w 1 02\nr 1 02\nr 2 02\nw 1 00\nw 3 80\nw 0 0c\nw 1 00\nw 3 03\nw 2 07\nw 4 03\nr 5 60\nw 0 41\n";
+    let (status, text) = audited("replay", &boot.repeat(3));
+    assert_eq!(status, 0, "{text}");
+    assert!(text.contains("-:15: undecided: ISR reads 02"), "{text}");
+    assert_eq!(
+        last_of(&text),
+        "-: 36 lines, with accesses alone, 0 differences, 2 undecided"
+    );
+    // A set-up that has begun, and one that ends the recording, say as little.
+    let in_use = "w 3 03\nw 2 07\nr 5 60\nw 0 41\n";
+    for behind in [
+        "w 3 80\nw 3 03\nr 2 01\nr 5 60\nw 0 41\n",
+        "w 1 02\nr 2 02\n",
+    ] {
+        let (status, text) = audited("replay", &format!("{in_use}{behind}"));
+        assert_eq!(status, 0, "{text}");
+        assert!(text.ends_with(", 0 differences, 1 undecided\n"), "{text}");
+    }
+    // Whoever goes on to move bytes without a set-up has not started anew.
+    for behind in [
+        "r 2 01\nr 5 60\nw 0 41\n",
+        "w 1 01\nr 2 04\nr 5 61\nr 0 41\nw 3 03\n",
+    ] {
+        let (status, text) = audited("replay", &format!("{in_use}{behind}"));
+        assert_eq!(status, 1, "{text}");
+        assert!(text.contains(": difference: ISR reads 0"), "{text}");
+    }
+}
+
 #[test]
 fn what_is_undecided_is_said_in_each_form() {
     let log = sending(false, BLIND);

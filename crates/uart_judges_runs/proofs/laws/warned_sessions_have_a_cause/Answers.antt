@@ -4,9 +4,9 @@ use Rattle.uart_judges_runs.proofs.laws.warned_sessions_have_a_cause.Goals as go
 
 pub returns : goal.returns
 returns c = record {
-  caused = λ causes calls fields accesses old new past entries size gives session knows knows_for is.
-      unfounded_session causes calls fields accesses old new past entries size gives session knows knows_for is;
-  none = λ causes calls fields accesses old new past entries nothing size gives session knows knows_for is.
-      causeless_recording causes past entries nothing
-      (unfounded_session causes calls fields accesses old new past entries size gives session knows knows_for is);
+  caused = λ causes calls fields accesses old new past entries gives session knows knows_for is.
+      unfounded_session causes calls fields accesses old new past entries gives session knows knows_for is;
+  none = λ causes calls fields accesses old new past entries nothing gives session knows knows_for is.
+      causeless_recording fields.size causes past entries nothing
+      (unfounded_session causes calls fields accesses old new past entries gives session knows knows_for is);
 }
