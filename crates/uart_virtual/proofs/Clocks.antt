@@ -12,6 +12,7 @@ use Rattle.uart_virtual.specs.Port.{happen, brings, looks, moves_data, stays_up,
 use Rattle.uart_virtual.specs.Clock.{Event, Call, TimePasses, Clocked, is_put_off, is_given, after_event, after_events}
 use Rattle.uart_virtual.specs.Clock.{some_given, given, asked, IsClocked, NobodyWaitsForEver, EachRiseIsGiven, AFullFifoIsGiven}
 use Rattle.uart_virtual.specs.Clock.{ARiseIsGivenAtOnce, WhatCanWaitIsTime, ClockedStays, GivenWhileUp, AClockAddsNone}
+use Rattle.uart_virtual.specs.Clock.{none_waits, ALookIsEnough}
 use Rattle.uart_virtual.proofs.Stays.{dip_signalled, stays-part}
 use Rattle.uart_virtual.proofs.Tells.{told_after, signals_up, full_signalled, no_other_signals}
 
@@ -224,6 +225,56 @@ rise_at_once puts_off (SetLines inputs) m h down up =
     inl (at_once (todo (SetLines inputs) m.port).signal puts_off (rise_asks (SetLines inputs) m.port h down up))
 rise_at_once puts_off (TakeOutput count) m h down up =
     inl (at_once (todo (TakeOutput count) m.port).signal puts_off (rise_asks (TakeOutput count) m.port h down up))
+
+-- ---- a guest that looks until it sees no interrupt
+
+read_given : (signal puts_off moves moved : Bool) → signal ≡ true → not (puts_off && moves) ≡ true →
+    (signal && not (puts_off && (moves && (signal && not moved)))) ≡ true
+read_given true false moves moved s n = refl
+read_given true true false moved s n = refl
+read_given true true true moved s n = absurd (cc)
+read_given false puts_off moves moved s n = absurd (cc)
+
+write_given : (signal puts_off moves : Bool) → signal ≡ true → not (puts_off && moves) ≡ true →
+    (signal && not (puts_off && (moves && signal))) ≡ true
+write_given true false moves s n = refl
+write_given true true false s n = refl
+write_given true true true s n = absurd (cc)
+write_given false puts_off moves s n = absurd (cc)
+
+-- a signal is given, unless the guest moves data, and the monitor puts that off
+asked_given : (puts_off : Bool) (call : PortCall) (m : Clocked) → (todo call m.port).signal ≡ true →
+    not (puts_off && moves_data call) ≡ true → is_given (Call puts_off call) m ≡ true
+asked_given puts_off (Read offset) m s n =
+    read_given (todo (Read offset) m.port).signal puts_off (offset == offsets.DATA) (todo (Read offset) m.port).has_moved s n
+asked_given puts_off (Write offset value) m s n =
+    write_given (todo (Write offset value) m.port).signal puts_off (offset == offsets.DATA) s n
+asked_given puts_off (Receive bytes) m s n = at_once (todo (Receive bytes) m.port).signal puts_off s
+asked_given puts_off (ReceiveOne byte errors) m s n = at_once (todo (ReceiveOne byte errors) m.port).signal puts_off s
+asked_given puts_off (SetLines inputs) m s n = at_once (todo (SetLines inputs) m.port).signal puts_off s
+asked_given puts_off (TakeOutput count) m s n = at_once (todo (TakeOutput count) m.port).signal puts_off s
+
+rise_without_time : (events : List Event) (m : Clocked) → none_waits events ≡ true → m.port.told.line ≡ false →
+    (after_events events m).port.told.line ≡ true → some_given events m ≡ true
+rise_without_time [] m n down up = absurd (cc)
+rise_without_time (TimePasses ∷ events) m n down up =
+    or_right (is_given TimePasses m) _ (rise_without_time events (after_event TimePasses m) n down up)
+rise_without_time (Call puts_off call ∷ events) m n down up =
+    let both = each (not (puts_off && moves_data call)) (none_waits events) n in
+    go (is_up (settle (happen call m.port.chip))) refl both.0
+    (λ e. rise_without_time events (after_event (Call puts_off call) m) both.1 e up)
+  where
+    go : (level : Bool) → is_up (settle (happen call m.port.chip)) ≡ level → not (puts_off && moves_data call) ≡ true →
+        ((after_event (Call puts_off call) m).port.told.line ≡ false →
+        some_given events (after_event (Call puts_off call) m) ≡ true) →
+        some_given (Call puts_off call ∷ events) m ≡ true
+    go true e stays later =
+        or_left (is_given (Call puts_off call) m) _ (asked_given puts_off call m
+        (rises (is_up (settle (happen call m.port.chip))) m.port.told.line _ down e) stays)
+    go false e stays later = or_right (is_given (Call puts_off call) m) _ (later e)
+
+pub look_is_enough : ALookIsEnough
+look_is_enough events m h n down up = rise_without_time events m n (h.line ∙ down) ((told_events events m h).line ∙ up)
 
 pub full_given : AFullFifoIsGiven
 full_given puts_off (Read offset) m b up none = absurd (cc)

@@ -4,8 +4,8 @@ use Rattle.std.specs.Prelude.{◌⊎◌, ◌==◌, if◌then◌else◌}
 use Rattle.uart_chip.specs.Chip.{ticks}
 use Rattle.uart_spec.specs.declared.registers.offsets.TheConstants as offsets
 use Rattle.uart_virtual.specs.declared.told.Todo.{Todo}
-use Rattle.uart_virtual.specs.Port.{PortState, PortCall, Read, Write, after, todo, happen, brings, stays_up, is_up}
-use Rattle.uart_virtual.specs.Port.{has_room, IsTold, IsPort}
+use Rattle.uart_virtual.specs.Port.{PortState, PortCall, Read, Write, after, todo, happen, brings, moves_data}
+use Rattle.uart_virtual.specs.Port.{stays_up, is_up, has_room, IsTold, IsPort}
 
 -- A call lets time pass that a real line would still take. So the guest's access of DATA can take the line up before a
 -- real one would rise: a reception timeout is due at once for what is left in the FIFO, and a transmitter is empty
@@ -105,6 +105,24 @@ ARiseIsGivenAtOnce =
     (puts_off : Bool) (call : PortCall) (m : Clocked) → IsTold m.port → is_up m.port.chip ≡ false →
     is_up (after call m.port).chip ≡ true →
     (is_given (Call puts_off call) m ≡ true) ⊎ ((puts_off ≡ true) × (writes_data call ≡ true))
+
+-- the monitor puts nothing off while the guest reads or writes DATA in these events, so it puts nothing off at all
+abbrev pub none_waits : List Event → Bool
+none_waits [] = true
+none_waits (Call puts_off call ∷ events) = not (puts_off && moves_data call) && none_waits events
+none_waits (TimePasses ∷ events) = none_waits events
+
+-- A guest that looks until it sees no interrupt, and then returns, needs no clock. If the line is down, as it is after
+-- such a look, and up later, then a signal was given in between, though no time passes
+abbrev pub ALookIsEnough : Type 0
+ALookIsEnough =
+    (events : List Event) (m : Clocked) → IsTold m.port →
+    -- in between the guest makes no access of DATA whose signal the monitor puts off
+    none_waits events ≡ true →
+    -- the line is down at first
+    is_up m.port.chip ≡ false →
+    -- it is up in the end
+    is_up (after_events events m).port.chip ≡ true → some_given events m ≡ true
 
 -- input that leaves no room is signalled at once, if the line is up when the call ends. So no guest is without a signal
 -- for good while input comes

@@ -3,7 +3,7 @@
 //! The contract of each function is a law that callers can cite. The functions do nothing.
 ghost use Rattle.uart_virtual.specs.Clock.{NobodyWaitsForEver, EachRiseIsGiven, AFullFifoIsGiven};
 ghost use Rattle.uart_virtual.specs.Clock.{WhatCanWaitIsTime, ClockedStays, GivenWhileUp};
-ghost use Rattle.uart_virtual.specs.Clock.{ARiseIsGivenAtOnce, AClockAddsNone};
+ghost use Rattle.uart_virtual.specs.Clock.{ARiseIsGivenAtOnce, AClockAddsNone, ALookIsEnough};
 ghost use Rattle.uart_virtual.specs.Laws.{LevelIsTold, ToldStays, SignalsAreUp, LineStays};
 ghost use Rattle.uart_virtual.specs.Laws.{EachRiseIsSignalled, EachDipIsSignalled};
 ghost use Rattle.uart_virtual.specs.Laws.{AFullFifoIsSignalled, NoOtherSignals};
@@ -69,6 +69,10 @@ pub fn rises_are_signalled()
 /// call to call is signalled at once, unless a write of DATA brings it, and input that leaves no
 /// room is. What can wait is a signal for what time brings. A signal is given only while the line
 /// is up, nothing is owed after it, and a clock adds none.
+///
+/// A guest whose handler reads ISR until it shows no interrupt needs no clock: the line is down
+/// then, and the next rise is signalled though no time passes, as long as the guest reads and
+/// writes no DATA for which the monitor puts a signal off.
 pub fn nobody_waits_for_ever()
     // promise: with a clock nobody waits for ever: what is put off comes when the time has passed,
     //   and nothing else is put off
@@ -78,6 +82,11 @@ pub fn nobody_waits_for_ever()
     //   with_a_clock_no_handler_waits_for_ever_and_none_is_deaf
     // refused: a_clock_forgets_what_is_owed, nobody_waits_though_no_time_passes,
     //   a_clock_puts_a_rise_of_a_read_off
+    // promise: a guest that reads ISR until it shows no interrupt needs no clock, whatever of its
+    //   accesses of DATA was put off before
+    // with: nobody_waits_for_ever.looked
+    // shown by: a_fifo_of_input_is_one_signal_for_a_handler_that_drains
+    // refused: a_look_is_enough_for_what_comes_after_it
     // proved: A signal is given only while the line is up, and then nothing is owed. A monitor
     //   gives at most as many as its port asks for, and one that it owed before
     // on: `uart_virtual::laws::nobody_waits_for_ever`, clauses `up`, `stays` and `most`
@@ -87,6 +96,8 @@ pub fn nobody_waits_for_ever()
     ensures at_once { ARiseIsGivenAtOnce }
     ensures full { AFullFifoIsGiven }
     ensures waits { WhatCanWaitIsTime }
+    // if the line is down, and nothing is put off any more, the next rise is signalled without time
+    ensures looked { ALookIsEnough }
     ensures up { GivenWhileUp }
     ensures stays { ClockedStays }
     ensures most { AClockAddsNone }

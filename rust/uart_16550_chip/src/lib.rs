@@ -12,8 +12,8 @@ pub mod serial;
 pub use geesetrunk_kit::{ArrayVec, Bits, Flag, Flags};
 #[doc(inline)]
 pub use serial::{
-    BadState, FromStateError, NoEvents, Output, Serial, SerialEvents, SerialState, Trigger,
-    TriggerError,
+    BadState, FromStateError, LineSettings, NoEvents, Output, Serial, SerialEvents, SerialState,
+    Trigger, TriggerError,
 };
 #[doc(inline)]
 pub use uart_live::{

@@ -13,6 +13,7 @@ const IER: u8 = 1;
 const ISR: u8 = 2;
 const FCR: u8 = 2;
 const MCR: u8 = 4;
+const LSR_OFFSET: u8 = 5;
 
 /// A line, which can be broken, how often it was triggered, and its level.
 #[derive(Default)]
@@ -260,4 +261,75 @@ fn what_is_put_off_is_not_lost_with_a_state() {
     };
     assert_eq!(restored.count.get(), 1);
     assert!(!serial.is_timeout_to_come());
+}
+
+/// A FIFO of input, and Linux's handler, while another processor prints so many bytes by polling before each read of DATA.
+fn triggers_of_a_fifo(drains: bool, printed: usize) -> u32 {
+    let (line, put_off) = (Line::default(), PutOff::default());
+    let mut serial: Device = Serial::with_events(&line, &put_off, sink());
+    serial.set_handler_drains(drains).unwrap();
+    serial.write(FCR, 0x81).unwrap();
+    serial.write(IER, 0x01).unwrap();
+    assert_eq!(serial.enqueue_raw_bytes(&[b'x'; 16]).unwrap(), 16);
+    while serial.read(ISR) & 0x01 == 0 {
+        while serial.read(LSR_OFFSET) & 0x01 != 0 {
+            (0..printed).for_each(|_| serial.write(DATA, b'>').unwrap());
+            assert_eq!(serial.read(DATA), b'x');
+        }
+    }
+    assert!(!serial.level() && !serial.is_timeout_to_come());
+    assert_eq!(put_off.0.get(), 0);
+    line.count.get()
+}
+
+#[test]
+fn a_fifo_of_input_is_one_signal_for_a_handler_that_drains() {
+    for printed in 0..=15 {
+        assert_eq!(triggers_of_a_fifo(true, printed), 1, "{printed} printed");
+    }
+}
+
+/// A handler that drains looks after each read. What it writes may be the last that it does, so nothing of that waits.
+#[test]
+fn a_handler_that_drains_waits_for_nothing_that_it_writes() {
+    let (line, put_off) = (Line::default(), PutOff::default());
+    let mut serial: Device = Serial::with_events(&line, &put_off, sink());
+    serial.set_handler_drains(true).unwrap();
+    serial.write(IER, 0x02).unwrap();
+    assert_eq!(serial.read(ISR), 0x02);
+    serial.write(DATA, b'x').unwrap();
+    assert_eq!((line.count.get(), line.level.get()), (2, true));
+    assert_eq!(put_off.0.get(), 0);
+}
+
+/// A monitor may learn that another guest runs now. What was put off for the one before is told then, and from then on nothing waits.
+#[test]
+fn a_handler_that_drains_no_more_is_told_what_was_put_off() {
+    let (line, put_off) = (Line::default(), PutOff::default());
+    let mut serial: Device = Serial::with_events(&line, &put_off, sink());
+    serial.set_handler_drains(true).unwrap();
+    serial.write(FCR, 0x81).unwrap();
+    serial.write(IER, 0x01).unwrap();
+    serial.enqueue_raw_bytes(&[0; 12]).unwrap();
+    (0..5).for_each(|_| _ = serial.read(DATA));
+    assert_eq!((line.count.get(), serial.is_timeout_to_come()), (1, true));
+    // What is so already changes nothing, and a clock that comes takes over what is put off.
+    serial.set_handler_drains(true).unwrap();
+    serial.set_clock(true).unwrap();
+    serial.set_handler_drains(false).unwrap();
+    assert_eq!((line.count.get(), serial.is_timeout_to_come()), (1, true));
+    serial.set_clock(false).unwrap();
+    assert_eq!((line.count.get(), serial.is_timeout_to_come()), (2, false));
+
+    serial.set_handler_drains(true).unwrap();
+    serial.read(ISR);
+    // Input that fills the FIFO is signalled.
+    serial.enqueue_raw_bytes(&[0; 9]).unwrap();
+    (0..9).for_each(|_| _ = serial.read(DATA));
+    assert!(serial.is_timeout_to_come());
+    line.is_broken.set(true);
+    serial.set_handler_drains(false).unwrap_err();
+    line.is_broken.set(false);
+    serial.set_handler_drains(false).unwrap();
+    assert_eq!((line.count.get(), serial.is_timeout_to_come()), (4, false));
 }

@@ -5,16 +5,18 @@
 
 #![cfg(feature = "std")]
 
-use std::cell::Cell;
+use std::cell::{Cell, RefCell};
 use std::convert::Infallible;
 use std::rc::Rc;
-use uart_16550_chip::{NoEvents, Serial, SerialEvents, Trigger};
+use uart_16550_chip::registers::MCR;
+use uart_16550_chip::{LineSettings, NoEvents, Serial, SerialEvents, Trigger};
 
 const DATA: u8 = 0;
 const IER: u8 = 1;
 const ISR: u8 = 2;
 const FCR: u8 = 2;
 const LCR: u8 = 3;
+const MCR_OFFSET: u8 = 4;
 const LSR: u8 = 5;
 
 const NONE_PENDING: u8 = 0x01;
@@ -647,4 +649,96 @@ fn a_break_of_the_guest_is_told_once() {
     serial.write(LCR, 0x07).unwrap();
     assert_eq!(breaks.0.get(), [1, 1]);
     assert_eq!(serial.writer(), b"x");
+}
+
+/// What was told of the guest's line.
+#[derive(Clone, Default)]
+struct Told(Rc<RefCell<Vec<(u8, u8, u16)>>>);
+
+impl SerialEvents for Told {
+    fn buffer_read(&self) {}
+    fn out_byte(&self) {}
+    fn tx_lost_byte(&self) {}
+    fn in_buffer_empty(&self) {}
+    fn out_lines(&self, outputs: MCR) {
+        self.0.borrow_mut().push((outputs.bits(), 0, 0));
+    }
+    fn out_settings(&self, settings: LineSettings) {
+        let frame = settings.frame.bits();
+        self.0.borrow_mut().push((0, frame, settings.divisor));
+    }
+}
+
+#[test]
+fn outputs_are_told_when_they_change() {
+    let told = Told::default();
+    let mut serial = Serial::with_events(Edges::default(), told.clone(), Vec::new());
+    // As firmware leaves it, no output, those of a PC, twice, by string I/O, in loopback, and back.
+    for (mcr, outputs) in [
+        (0x08, None),
+        (0x00, Some(0x00)),
+        (0x0b, Some(0x0b)),
+        (0x0b, None),
+        (0xef, Some(0x0f)),
+        (0x1f, Some(0x00)),
+        (0x10, None),
+        (0x01, Some(0x01)),
+    ] {
+        serial.write_bytes(MCR_OFFSET, &[mcr]).unwrap();
+        let outputs: Vec<_> = outputs.map(|outputs| (outputs, 0, 0)).into_iter().collect();
+        assert_eq!(told.0.take(), outputs, "{mcr:#04x}");
+    }
+    assert_eq!(serial.outputs(), MCR::DTR);
+}
+
+#[test]
+fn frame_and_rate_are_told_once_they_are_set() {
+    let told = Told::default();
+    let mut serial = Serial::with_events(Edges::default(), told.clone(), Vec::new());
+    assert_eq!(
+        (serial.settings().frame.bits(), serial.settings().divisor),
+        (0x03, 12)
+    );
+    // What was there, with a break, and without; seven bits with parity; and then another divisor, half by half.
+    for (register, value, settings) in [
+        (LCR, 0x03, None),
+        (LCR, 0x43, None),
+        (LCR, 0x03, None),
+        (LCR, 0x1a, Some((0x1a, 12))),
+        (LCR, 0x9b, None),
+        (DATA, 0x01, None),
+        (IER, 0x02, None),
+        (LCR, 0x1a, Some((0x1a, 0x0201))),
+        (LCR, 0x9a, None),
+        (DATA, 0x00, None),
+        (IER, 0x00, None),
+        (LCR, 0x1a, Some((0x1a, 0))),
+    ] {
+        serial.write(register, value).unwrap();
+        let settings: Vec<_> = settings
+            .map(|(frame, divisor)| (0, frame, divisor))
+            .into_iter()
+            .collect();
+        assert_eq!(told.0.take(), settings, "{register} {value:#04x}");
+    }
+    assert_eq!(serial.settings().divisor, 0);
+}
+
+/// The process that goes on has another line, and knows nothing of what the one before did with its own.
+#[test]
+fn a_device_that_continues_tells_of_its_line() {
+    let mut serial = Serial::new(Edges::default(), Vec::new());
+    serial.write(MCR_OFFSET, 0x03).unwrap();
+    serial.write(LCR, 0x9b).unwrap();
+    serial.write(DATA, 0x01).unwrap();
+    let told = Told::default();
+    let Ok(mut moved) =
+        Serial::from_state(&serial.state(), Edges::default(), told.clone(), Vec::new())
+    else {
+        panic!("a state of a device");
+    };
+    assert_eq!(told.0.take(), [(0x03, 0, 0), (0, 0x1b, 1)]);
+    moved.write(LCR, 0x1b).unwrap();
+    moved.write(MCR_OFFSET, 0x03).unwrap();
+    assert_eq!(told.0.take(), []);
 }

@@ -1,7 +1,8 @@
 //! What a device did, counted.
 
 use std::sync::atomic::{AtomicU64, Ordering};
-use uart_16550_chip::{SerialEvents, each_serial_event};
+use uart_16550_chip::registers::MCR;
+use uart_16550_chip::{LineSettings, SerialEvents, each_serial_event};
 
 /// The events that are counted: the name of each count, the method of `SerialEvents`, and what it counts.
 macro_rules! counted {
@@ -32,7 +33,7 @@ macro_rules! counted {
 
         /// A function for each event that is counted.
         mod counting {
-            use super::{Counters, Ordering};
+            use super::{Counters, LineSettings, MCR, Ordering};
 
             $(
                 pub(super) fn $event(counters: &Counters $(, $argument: $Type)?) {
@@ -69,6 +70,10 @@ counted! {
     held: tx_held() if true;
     /// How many breaks the guest began.
     breaks: out_break(begins: bool) if begins;
+    /// How often the guest changed its outputs.
+    output_changes: out_lines(_outputs: MCR) if true;
+    /// How often the guest set another frame or rate.
+    setting_changes: out_settings(_settings: LineSettings) if true;
     /// How many bytes were lost since the guest wrote to a full transmitter.
     overflows: tx_overflow() if true;
     /// How many characters with errors came while there was no room.

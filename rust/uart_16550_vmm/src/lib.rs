@@ -9,6 +9,7 @@ mod input;
 #[cfg(target_os = "linux")]
 mod linux;
 mod lossy;
+mod superio;
 mod trigger;
 
 pub use bus::BusSerial;
@@ -18,6 +19,7 @@ pub use input::Input;
 #[cfg(target_os = "linux")]
 pub use linux::{Epoll, EventFd, Room, Timer};
 pub use lossy::Lossy;
+pub use superio::{SuperioState, TooManyWaitError};
 #[cfg(feature = "vm-superio")]
 pub use trigger::FromSuperio;
 pub use trigger::TriggerBy;

@@ -53,7 +53,7 @@ macro_rules! each_is_noted {
         /// Tells each event once.
         fn tell_all(events: &impl SerialEvents) {
             $(
-                $(let $argument: $Type = true;)?
+                $(let $argument = <$Type>::default();)?
                 events.$event($($argument)?);
             )*
         }
@@ -82,6 +82,8 @@ fn named(counts: Counts) -> Vec<(&'static str, u64)> {
         ("rooms", counts.rooms),
         ("held", counts.held),
         ("breaks", counts.breaks),
+        ("output_changes", counts.output_changes),
+        ("setting_changes", counts.setting_changes),
         ("overflows", counts.overflows),
         ("overruns", counts.overruns),
         ("timeouts", counts.timeouts),
@@ -369,7 +371,7 @@ mod with_serde {
         }
 
         fn serialize_struct(self, name: &'static str, len: usize) -> Result<Self, Infallible> {
-            assert_eq!((name, len), ("Counts", 11));
+            assert_eq!((name, len), ("Counts", 13));
             Ok(self)
         }
     }
@@ -378,9 +380,11 @@ mod with_serde {
     fn counts_are_serialized_by_name() {
         let counters = Counters::default();
         tell_all(&counters);
+        // A break counts as it begins, and the default of each event is told: its end.
+        counters.out_break(true);
         counters.triggered();
         let Ok(list) = counters.counts().serialize(ToList(Vec::new()));
-        assert_eq!(list.len(), 11);
+        assert_eq!(list.len(), 13);
         assert_eq!(list, named(counters.counts()));
     }
 }

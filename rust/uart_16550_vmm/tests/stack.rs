@@ -325,6 +325,8 @@ struct Machine<W: Wiring, H: Host> {
     has_levels: bool,
     has_clock: bool,
     has_bursts: bool,
+    /// The monitor knows that the guest's handler reads ISR until it shows no interrupt.
+    is_known: bool,
     /// The terminal can be read or written, where it could not before.
     has_news: bool,
     /// What an output or a trigger failed to do may be reported.
@@ -340,13 +342,14 @@ impl<W: Wiring, H: Host> fmt::Display for Machine<W, H> {
     fn fmt(&self, f: &mut fmt::Formatter<'_>) -> fmt::Result {
         write!(
             f,
-            "machine {}: {:?}, a printer {}, levels {}, a clock {}, bursts {}; sent {} shown {}, typed {} received {}",
+            "machine {}: {:?}, a printer {}, levels {}, a clock {}, bursts {}, known {}; sent {} shown {}, typed {} received {}",
             self.seed,
             self.guest.kind,
             self.guest.has_printer,
             self.has_levels,
             self.has_clock,
             self.has_bursts,
+            self.is_known,
             self.guest.sent.len(),
             self.terminal.borrow().shown.len(),
             self.typed.len(),
@@ -394,6 +397,7 @@ impl<W: Wiring, H: Host> Machine<W, H> {
             has_levels,
             has_clock: false,
             has_bursts: false,
+            is_known: false,
             has_news: false,
             may_fail: false,
             dropped: 0,
@@ -463,6 +467,13 @@ impl<W: Wiring, H: Host> Machine<W, H> {
         self.look_at(set);
     }
 
+    /// The monitor may know how the guest's handler goes on, if it is one of those that look until there is no cause.
+    fn set_known(&mut self, is_known: bool) {
+        self.is_known = is_known && self.guest.kind == Kind::Linux;
+        let set = self.bus.serial_mut().set_handler_drains(self.is_known);
+        self.look_at(set);
+    }
+
     /// The guest waits for an interrupt: that ends a burst.
     fn wait(&mut self) {
         if self.has_bursts {
@@ -488,6 +499,7 @@ impl<W: Wiring, H: Host> Machine<W, H> {
         self.input = Input::new(Keyboard(Rc::clone(&self.terminal)));
         self.set_clock(self.has_clock);
         self.set_bursts(self.has_bursts);
+        self.set_known(self.is_known);
         // A process that begins looks at everything.
         self.has_news = true;
         self.serve();
@@ -749,6 +761,10 @@ impl<W: Wiring, H: Host> Machine<W, H> {
             12 => self.move_on(),
             13 => _ = self.pass_time(),
             14 => self.mend(),
+            15 => {
+                let is_known = self.random.one_in(2);
+                self.set_known(is_known);
+            }
             _ => {}
         }
         if self.random.one_in(2) {

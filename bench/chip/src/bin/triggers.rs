@@ -33,7 +33,7 @@ impl SerialEvents for Events {
     }
 }
 
-struct Port(Serial<Line, Events, Sink>);
+struct Port(Console);
 
 impl Device for Port {
     fn read(&mut self, offset: u8) -> u8 {
@@ -58,13 +58,28 @@ impl Device for Port {
     }
 }
 
-fn port(signals: Signals, has_clock: bool) -> Port {
-    let mut serial = Serial::with_events(Line(signals.clone()), Events(signals), sink());
-    serial.set_clock(has_clock).expect("the trigger does not fail");
+type Console = Serial<Line, Events, Sink>;
+
+fn device(signals: Signals) -> Console {
+    Serial::with_events(Line(signals.clone()), Events(signals), sink())
+}
+
+fn drained(signals: Signals) -> Port {
+    let mut serial = device(signals);
+    serial
+        .set_handler_drains(true)
+        .expect("the trigger does not fail");
+    Port(serial)
+}
+
+fn clocked(signals: Signals) -> Port {
+    let mut serial = device(signals);
+    serial.set_clock(true).expect("the trigger does not fail");
     Port(serial)
 }
 
 fn main() {
-    linux::run("Serial", |signals| port(signals, false));
-    linux::run("with clock", |signals| port(signals, true));
+    linux::run("Serial", |signals| Port(device(signals)));
+    linux::run("drained", drained);
+    linux::run("with clock", clocked);
 }

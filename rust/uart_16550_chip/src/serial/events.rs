@@ -30,6 +30,16 @@ macro_rules! each_serial_event {
             fn out_break(begins: bool) {
                 let _ = begins;
             }
+            /// The guest raised or lowered outputs: DTR, RTS, OUT1 and OUT2. In loopback all of them are low. A device that continues
+            /// from a state tells them too.
+            fn out_lines(outputs: $crate::registers::MCR) {
+                let _ = outputs;
+            }
+            /// The guest set another frame or another rate: it wrote LCR without DLAB, and they are not those that were told last. A
+            /// device that continues from a state tells them too.
+            fn out_settings(settings: $crate::LineSettings) {
+                let _ = settings;
+            }
             /// The guest wrote to a transmitter that LSR showed to be full, and a byte is lost.
             fn tx_overflow() {}
             /// A character with errors came while there was no room for it, and one is lost.

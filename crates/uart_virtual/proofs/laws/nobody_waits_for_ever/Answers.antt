@@ -1,5 +1,5 @@
 use Rattle.uart_virtual.proofs.Clocks.{nobody_waits, rise_given, rise_at_once, full_given, what_can_wait}
-use Rattle.uart_virtual.proofs.Clocks.{given_up, clocked_stays, adds_none}
+use Rattle.uart_virtual.proofs.Clocks.{given_up, clocked_stays, adds_none, look_is_enough}
 use Rattle.uart_virtual.proofs.laws.nobody_waits_for_ever.Goals as goal
 
 pub returns-clause-comes : goal.returns-clause-comes
@@ -25,3 +25,6 @@ returns-clause-most c = adds_none
 
 pub returns-clause-at_once : goal.returns-clause-at_once
 returns-clause-at_once c = rise_at_once
+
+pub returns-clause-looked : goal.returns-clause-looked
+returns-clause-looked c = look_is_enough
