@@ -13,7 +13,7 @@
 
 static int probe(struct pci_dev *device, const struct pci_device_id *id)
 {
-	struct u16550_tty_chip chip = { .frequency = FREQUENCY };
+	struct u16550_tty_chip chip = PORT_CHIP;
 	int error;
 
 	if (!(pci_resource_flags(device, BAR) & IORESOURCE_IO) || pci_resource_len(device, BAR) < REGISTERS)

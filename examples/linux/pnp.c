@@ -22,7 +22,7 @@ MODULE_DEVICE_TABLE(pnp, devices);
 
 static int probe(struct pnp_dev *device, const struct pnp_device_id *id)
 {
-	struct u16550_tty_chip chip = { .frequency = FREQUENCY };
+	struct u16550_tty_chip chip = PORT_CHIP;
 	struct uart_port *port;
 	int error;
 

@@ -23,7 +23,7 @@ static void remove(void *device)
 
 static int probe(struct platform_device *device)
 {
-	struct u16550_tty_chip chip = { .frequency = FREQUENCY };
+	struct u16550_tty_chip chip = PORT_CHIP;
 	int error;
 
 	/* A user can bind any device of the platform here, by its driver_override. */

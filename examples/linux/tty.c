@@ -1,10 +1,11 @@
 // SPDX-License-Identifier: MIT OR GPL-2.0-only
 /*
- * A tty driver for Linux over the library: chips at I/O ports of a PC, as /dev/ttyP0, /dev/ttyP1 and so on. This file is what all chips
- * have in common. pnp.c, pci.c and ports.c find them, and call what tty.h says.
+ * A tty driver for Linux over the library: chips at I/O ports or in memory, as /dev/ttyP0, /dev/ttyP1 and so on. This file is what all
+ * chips have in common. pnp.c, pci.c, of.c and ports.c find them, and call what tty.h says.
  *
  * serial_core of Linux does what all serial ports have in common, and calls the functions in `operations`. What these do to a chip they
- * do by calls of the library. It makes each access, through read_register and write_register: this file has no other.
+ * do by calls of the library. It makes each access, through read_register and write_register, or read_memory and write_memory: this file
+ * has no other.
  *
  * The library's rings are not used. serial_core keeps what waits to be sent, and the tty layer what was received. A second queue below
  * theirs would hold bytes that a stop or a flush does not reach.
@@ -14,6 +15,7 @@
 #define pr_fmt(fmt) KBUILD_MODNAME ": " fmt
 #include <linux/console.h>
 #include <linux/delay.h>
+#include <linux/hrtimer.h>
 #include <linux/interrupt.h>
 #include <linux/io.h>
 #include <linux/ioport.h>
@@ -56,9 +58,15 @@
 /* How many looks in a row have to find that the chip is gone. One alone may have met a bus that something else had disturbed. */
 #define LOOKS_IF_GONE 2
 
+/* How many looks in a row a DesignWare chip may be busy before the write of LCR that waits for it is given up. */
+#define DESIGN_WARE_LOOKS 20000
+
 /* The longest time that a console waits in a panic for the lock: a thousand tenths of a millisecond. */
 #define LOCK_TRIES 1000
 #define LOCK_TRY_MICROSECONDS 100
+
+/* What a transceiver at an RS-485 bus does. With DRAINS all is written, and the line still has it, or a delay behind it. */
+enum turn { LISTENS, TURNS, SENDS, DRAINS };
 
 static bool with_console;
 module_param_named(console, with_console, bool, 0444);
@@ -69,14 +77,22 @@ struct line {
 	struct u16550 uart;
 	struct u16550 last_words;	/* another driver of the same chip, for a panic */
 	struct u16550 debugger;		/* another one, for a debugger */
+	struct u16550_design_ware own, last, debugged;	/* what each of them keeps of a DesignWare chip */
+	bool is_design_ware;
+	struct u16550 switching;	/* another driver, which `bus` is made of */
+	struct u16550_bus bus;		/* switches the transceiver of an RS-485 bus, and sends there */
+	struct u16550_direction direction;	/* how it is switched */
+	struct hrtimer turning;		/* ends the delays there */
+	enum turn turn;
+	bool is_empty;			/* the transmitter was, when the last delay began */
+	bool hears;			/* what comes is wanted, though this end may be deaf while it sends */
 	struct u16550 *console;		/* the one of the first two that a console's text goes through */
 	struct u16550_config config;
 	u64 patience;			/* the spin limit of each of them */
-	unsigned long base;		/* the first port of the region that this line has; 0 without one, and then no driver is made */
+	resource_size_t base;		/* where the region begins that this line has; 0 without one, and then no driver is made */
 	struct u16550_dump registers;	/* before the machine slept */
 	u8 interrupts;			/* those that are enabled */
 	u8 shown;			/* the errors that LSR has shown of the character that is the next to be read */
-	u8 errors;			/* those of the character that was read last */
 	struct work_struct report;	/* says what is wrong */
 	const char *trouble, *detail;
 	char which[24];			/* the interrupt, for that */
@@ -111,6 +127,16 @@ static struct line *line_of(struct uart_port *port)
 #define timer_delete_sync del_timer_sync
 #endif
 
+static void set_up_timer(struct hrtimer *timer, enum hrtimer_restart (*over)(struct hrtimer *timer))
+{
+#if LINUX_VERSION_CODE >= KERNEL_VERSION(6, 13, 0)
+	hrtimer_setup(timer, over, CLOCK_MONOTONIC, HRTIMER_MODE_REL);
+#else
+	hrtimer_init(timer, CLOCK_MONOTONIC, HRTIMER_MODE_REL);
+	timer->function = over;
+#endif
+}
+
 #if LINUX_VERSION_CODE >= KERNEL_VERSION(6, 10, 0)
 /* How many bytes wait to be sent. */
 static unsigned int waiting(struct uart_port *port)
@@ -132,11 +158,11 @@ static unsigned int waiting(struct uart_port *port)
 static size_t peek(struct uart_port *port, u8 *burst, size_t most)
 {
 	struct circ_buf *xmit = &port->state->xmit;
-	size_t len = 0;
-	int at;
+	size_t len = min_t(size_t, most, CIRC_CNT(xmit->head, xmit->tail, UART_XMIT_SIZE));
+	size_t to_end = min_t(size_t, len, UART_XMIT_SIZE - xmit->tail);
 
-	for (at = xmit->tail; at != xmit->head && len < most; at = (at + 1) & (UART_XMIT_SIZE - 1))
-		burst[len++] = xmit->buf[at];
+	memcpy(burst, xmit->buf + xmit->tail, to_end);
+	memcpy(burst + to_end, xmit->buf, len - to_end);
 	return len;
 }
 #endif
@@ -144,39 +170,102 @@ static size_t peek(struct uart_port *port, u8 *burst, size_t most)
 /* ------------------------------------------------------------------ what the library needs */
 
 /*
- * The chip shows the errors of a character once, to the first look at LSR. That may be a look of a send, or of tx_empty. So what a look
- * shows is kept here, until the character is read.
+ * The chip shows the errors of a character once, to the first look at LSR. That may be a look of a send, or of tx_empty, and the library
+ * then has no errors with the character. So what looks have shown is kept here, until it is read.
  */
-static uint8_t read_register(void *context, uintptr_t address)
+static void keep_errors(struct line *line, unsigned int offset, u8 value)
 {
-	struct line *line = context;
-	u8 value = inb(address);
-
-	switch (address - line->base) {
+	switch (offset) {
 	case UART_LSR:
 		line->shown |= value & UART_LSR_BRK_ERROR_BITS;
 		break;
 	case UART_RX:
-		line->errors = line->shown;
 		line->shown = 0;
 		break;
 	}
-	return value;
 }
 
 /* No call of the library leaves a chip in loopback, so TIOCM_LOOP is added to what it writes. */
-static void write_register(void *context, uintptr_t address, uint8_t value)
+static u8 with_loop(const struct line *line, unsigned int offset, u8 value)
+{
+	return line->loops && offset == UART_MCR ? value | UART_MCR_LOOP : value;
+}
+
+/* The registers of a chip at I/O ports. */
+static uint8_t read_register(void *context, uintptr_t offset)
+{
+	struct line *line = context;
+	u8 value = inb(line->base + offset);
+
+	keep_errors(line, offset, value);
+	return value;
+}
+
+static void write_register(void *context, uintptr_t offset, uint8_t value)
 {
 	struct line *line = context;
 
-	if (line->loops && address - line->base == UART_MCR)
-		value |= UART_MCR_LOOP;
-	outb(value, address);
+	outb(with_loop(line, offset, value), line->base + offset);
+}
+
+/* Those of a chip in memory. They may have more than eight bits, of which the lowest count. */
+static uint8_t read_memory(void *context, uintptr_t offset)
+{
+	struct line *line = context;
+	void __iomem *at = line->port.membase + (offset << line->port.regshift);
+	u8 value;
+
+	switch (line->port.iotype) {
+	case UPIO_MEM16:
+		value = readw(at);
+		break;
+	case UPIO_MEM32:
+		value = readl(at);
+		break;
+	case UPIO_MEM32BE:
+		value = ioread32be(at);
+		break;
+	default:
+		value = readb(at);
+	}
+	keep_errors(line, offset, value);
+	return value;
+}
+
+static void write_memory(void *context, uintptr_t offset, uint8_t value)
+{
+	struct line *line = context;
+	void __iomem *at = line->port.membase + (offset << line->port.regshift);
+
+	value = with_loop(line, offset, value);
+	switch (line->port.iotype) {
+	case UPIO_MEM16:
+		writew(value, at);
+		break;
+	case UPIO_MEM32:
+		writel(value, at);
+		break;
+	case UPIO_MEM32BE:
+		iowrite32be(value, at);
+		break;
+	default:
+		writeb(value, at);
+	}
 }
 
 static struct u16550_io io_of(struct line *line)
 {
-	return (struct u16550_io){ line, read_register, write_register };
+	if (line->port.iotype == UPIO_PORT)
+		return (struct u16550_io){ line, read_register, write_register };
+	return (struct u16550_io){ line, read_memory, write_memory };
+}
+
+/* Makes one of the library's drivers for the chip, without an access. */
+static int make_driver(struct line *line, struct u16550 *uart, struct u16550_design_ware *chip)
+{
+	struct u16550_io io = io_of(line);
+
+	return line->is_design_ware ? u16550_new_design_ware(uart, chip, &io, DESIGN_WARE_LOOKS) : u16550_new(uart, &io);
 }
 
 static void report(struct work_struct *work)
@@ -227,21 +316,218 @@ static void disable(struct line *line, u8 interrupts)
 	failed(line, "disable", u16550_disable_interrupts(&line->uart, interrupts));
 }
 
-/* ------------------------------------------------------------------ sending */
-
 static bool has_more(struct uart_port *port)
 {
 	return port->x_char || (waiting(port) && !uart_tx_stopped(port));
+}
+
+/* ------------------------------------------------------------------ RS-485 */
+
+/*
+ * At a bus one end sends at a time, and RTS switches the transceiver of this one. The library's bus keeps that: no byte is written while the
+ * transceiver is not to send, and it is given back only while the transmitter is empty. Here are the delays, and what else the port does then.
+ */
+
+static bool is_bus(const struct line *line)
+{
+	return line->port.rs485.flags & SER_RS485_ENABLED;
+}
+
+static void send(struct line *line);
+
+/* The outputs that serial_core wants. At a bus RTS is that of the transceiver, whatever it wants. */
+static u8 outputs_of(const struct line *line)
+{
+	unsigned int mctrl = line->port.mctrl;
+	u8 outputs = (mctrl & TIOCM_DTR ? U16550_MCR_DTR : 0) | (mctrl & TIOCM_RTS ? U16550_MCR_RTS : 0) |
+		     (mctrl & TIOCM_OUT1 ? U16550_MCR_OUT_1 : 0) | (mctrl & TIOCM_OUT2 ? U16550_MCR_OUT_2_INT_ENABLE : 0);
+
+	if (!is_bus(line))
+		return outputs;
+	u16550_direction_receiving(&line->direction, outputs, &outputs);
+	return line->turn == LISTENS ? outputs : outputs ^ U16550_MCR_RTS;
+}
+
+/* A delay of so many milliseconds, and of so many nanoseconds more. */
+static void wait_at_bus(struct line *line, unsigned int milliseconds, unsigned int nanoseconds)
+{
+	hrtimer_start(&line->turning, ns_to_ktime((u64)milliseconds * NSEC_PER_MSEC + nanoseconds), HRTIMER_MODE_REL);
+}
+
+/* Makes the bus, of a driver that knows of the chip what the first one knows. Fails while the transmitter is not empty. */
+static int make_bus(struct line *line)
+{
+	struct u16550_io io = io_of(line);
+	struct u16550_state state;
+	int status = u16550_get_state(&line->uart, &state);
+
+	line->turn = LISTENS;
+	if (status == U16550_OK)
+		status = u16550_from_state(&line->switching, &io, &state);
+	if (status == U16550_OK)
+		status = u16550_bus_new(&line->bus, &line->switching, &line->direction);
+	return status;
+}
+
+static void end_bus(struct line *line)
+{
+	if (u16550_bus_end(&line->bus, &line->switching) == U16550_OK)
+		u16550_end(&line->switching);
+	line->turn = LISTENS;
+}
+
+/* Has the transceiver send. Without RX_DURING_TX what comes meanwhile is this end's own. */
+static void take_turn(struct line *line)
+{
+	const struct serial_rs485 *rs485 = &line->port.rs485;
+	int status = u16550_bus_start_sending(&line->bus);
+
+	/* The port was opened while its transmitter did not come to an end, as where the other end takes nothing. */
+	if (status == U16550_NOT_MADE && make_bus(line) == U16550_OK)
+		status = u16550_bus_start_sending(&line->bus);
+	if (failed(line, "start_sending", status))
+		return;
+	if (!(rs485->flags & SER_RS485_RX_DURING_TX))
+		disable(line, U16550_IER_DATA_READY | U16550_IER_RECEIVER_LINE_STATUS);
+	line->turn = rs485->delay_rts_before_send ? TURNS : SENDS;
+	if (line->turn == TURNS)
+		wait_at_bus(line, rs485->delay_rts_before_send, 0);
+}
+
+/* Whether bytes may be written now. Otherwise `turned` sends them, when the transceiver is ready. */
+static bool has_turn(struct line *line)
+{
+	if (line->turn == LISTENS && has_more(&line->port))
+		take_turn(line);
+	if (line->turn == DRAINS && has_more(&line->port))
+		line->turn = SENDS;
+	return line->turn == SENDS;
+}
+
+/* All is written. Looks whether it is on the line when that may be. */
+static void drain(struct line *line)
+{
+	if (!is_bus(line) || line->turn != SENDS)
+		return;
+	line->turn = DRAINS;
+	line->is_empty = false;
+	wait_at_bus(line, 0, line->port.frame_time);
+}
+
+/* Forgets what has come while this end was deaf. */
+static void forget_received(struct line *line)
+{
+	struct u16550_received burst[FIFO_SIZE];
+	size_t count = 0;
+	int bursts;
+
+	for (bursts = 0; bursts < MOST_CHARACTERS / FIFO_SIZE; bursts++) {
+		if (u16550_receive_with_errors(&line->uart, burst, ARRAY_SIZE(burst), &count) != U16550_OK || !count)
+			break;
+	}
+	line->shown = 0;
+}
+
+/*
+ * Gives the bus back when the last stop bit is out, and the user's delay is over. Some chips call their transmitter empty when that bit
+ * begins.
+ */
+static void give_turn_back(struct line *line)
+{
+	const struct serial_rs485 *rs485 = &line->port.rs485;
+	u8 is_idle = 0;
+
+	failed(line, "is_idle", u16550_bus_is_idle(&line->bus, &is_idle));
+	if (!is_idle) {
+		wait_at_bus(line, 0, line->port.frame_time);
+		return;
+	}
+	if (!line->is_empty) {
+		line->is_empty = true;
+		wait_at_bus(line, rs485->delay_rts_after_send, line->port.frame_time / 8);
+		return;
+	}
+	if (failed(line, "try_finish", u16550_bus_try_finish(&line->bus)))
+		return;
+	line->turn = LISTENS;
+	if (rs485->flags & SER_RS485_RX_DURING_TX)
+		return;
+	forget_received(line);
+	if (line->hears)
+		enable(line, U16550_IER_DATA_READY | U16550_IER_RECEIVER_LINE_STATUS);
+}
+
+static enum hrtimer_restart turned(struct hrtimer *timer)
+{
+	struct line *line = container_of(timer, struct line, turning);
+	unsigned long flags;
+
+	spin_lock_irqsave(&line->port.lock, flags);
+	if (line->is_open && line->turn == TURNS) {
+		line->turn = SENDS;
+		send(line);
+	} else if (line->is_open && line->turn == DRAINS) {
+		give_turn_back(line);
+	}
+	spin_unlock_irqrestore(&line->port.lock, flags);
+	return HRTIMER_NORESTART;
+}
+
+static struct u16550_direction direction_of(const struct serial_rs485 *rs485)
+{
+	return (struct u16550_direction){ U16550_DIRECTION_RTS, !!(rs485->flags & SER_RS485_RTS_ON_SEND) };
+}
+
+/* Called with the lock. serial_core has left out what `rs485_supported` does not have. */
+static int set_rs485(struct uart_port *port, struct ktermios *termios, struct serial_rs485 *rs485)
+{
+	struct line *line = line_of(port);
+	struct serial_rs485 before = port->rs485;
+	int status = U16550_OK;
+
+	if (line->turn != LISTENS)
+		return -EBUSY;
+	end_bus(line);
+	port->rs485 = *rs485;
+	line->direction = direction_of(rs485);
+	if (!line->is_open)
+		return 0;
+	if (is_bus(line))
+		status = make_bus(line);
+	if (status != U16550_OK) {
+		port->rs485 = before;
+		return status == U16550_BUS_BUSY ? -EBUSY : -EIO;
+	}
+	failed(line, "set_modem_control", u16550_set_modem_control(&line->uart, outputs_of(line)));
+	return 0;
+}
+
+static const struct serial_rs485 rs485_supported = {
+	.flags = SER_RS485_ENABLED | SER_RS485_RTS_ON_SEND | SER_RS485_RTS_AFTER_SEND | SER_RS485_RX_DURING_TX,
+	.delay_rts_before_send = 1,
+	.delay_rts_after_send = 1,
+};
+
+/* ------------------------------------------------------------------ sending */
+
+/* Sends as much as the chip takes. Returns how many bytes. At a bus none goes out while its transceiver is not to send. */
+static size_t send_bytes(struct line *line, const u8 *bytes, size_t len)
+{
+	size_t sent = 0;
+
+	if (is_bus(line))
+		failed(line, "send at the bus", u16550_bus_send_bytes(&line->bus, bytes, len, &sent));
+	else
+		failed(line, "send", u16550_send_bytes(&line->uart, bytes, len, &sent));
+	return sent;
 }
 
 static void send_burst(struct line *line)
 {
 	/* One array, also where the buffer ends: the chip takes one burst each time that it is empty, and half a one would cost as much. */
 	u8 burst[FIFO_SIZE];
-	size_t len = peek(&line->port, burst, sizeof(burst)), sent = 0;
+	size_t sent = send_bytes(line, burst, peek(&line->port, burst, sizeof(burst)));
 
-	if (failed(line, "send", u16550_send_bytes(&line->uart, burst, len, &sent)))
-		return;
 	uart_xmit_advance(&line->port, sent);
 	if (waiting(&line->port) < WAKEUP_CHARS)
 		uart_write_wakeup(&line->port);
@@ -252,19 +538,29 @@ static void send(struct line *line)
 {
 	struct uart_port *port = &line->port;
 
+	if (is_bus(line) && !has_turn(line)) {
+		/* Where the turn cannot be had yet, a look tries again. */
+		if (line->turn == LISTENS && has_more(port))
+			enable(line, U16550_IER_THR_EMPTY);
+		return;
+	}
 	if (port->x_char) {
 		/* XON or XOFF: before all that waits, and also while sending is stopped. */
-		if (u16550_try_send_byte(&line->uart, port->x_char) == U16550_OK) {
+		u8 character = port->x_char;
+
+		if (send_bytes(line, &character, 1)) {
 			port->icount.tx++;
 			port->x_char = 0;
 		}
 	} else if (has_more(port)) {
 		send_burst(line);
 	}
-	if (has_more(port))
+	if (has_more(port)) {
 		enable(line, U16550_IER_THR_EMPTY);
-	else
+	} else {
 		disable(line, U16550_IER_THR_EMPTY);
+		drain(line);
+	}
 }
 
 static void start_tx(struct uart_port *port)
@@ -281,7 +577,10 @@ static void start_tx(struct uart_port *port)
 
 static void stop_tx(struct uart_port *port)
 {
-	disable(line_of(port), U16550_IER_THR_EMPTY);
+	struct line *line = line_of(port);
+
+	disable(line, U16550_IER_THR_EMPTY);
+	drain(line);
 }
 
 static unsigned int tx_empty(struct uart_port *port)
@@ -292,6 +591,8 @@ static unsigned int tx_empty(struct uart_port *port)
 
 	spin_lock_irqsave(&port->lock, flags);
 	failed(line, "is_idle", u16550_is_idle(&line->uart, &is_idle));
+	/* At a bus not before somebody else may send. */
+	is_idle &= line->turn == LISTENS;
 	spin_unlock_irqrestore(&port->lock, flags);
 	return is_idle ? TIOCSER_TEMT : 0;
 }
@@ -331,19 +632,53 @@ static void give_character(struct uart_port *port, u8 byte, u8 errors)
 	uart_insert_char(port, errors | UART_LSR_DR, UART_LSR_OE, byte, mark_of(errors));
 }
 
+/* Whether characters without errors go to the tty layer as they are: no command to the kernel is expected, and they are wanted. */
+static bool passes_on(const struct uart_port *port)
+{
+	return !port->sysrq && !(port->ignore_status_mask & UART_LSR_DR);
+}
+
+static void give_burst(struct uart_port *port, const u8 *bytes, size_t count)
+{
+	port->icount.rx += count;
+	port->icount.buf_overrun += count - tty_insert_flip_string(&port->state->port, bytes, count);
+}
+
+/* Takes what has come, up to a FIFO of characters, and passes it on. Returns how many. */
+static size_t receive_burst(struct line *line)
+{
+	struct u16550_received burst[FIFO_SIZE];
+	u8 bytes[FIFO_SIZE], shown = line->shown, errors = shown;
+	size_t index, count = 0;
+
+	if (failed(line, "receive", u16550_receive_with_errors(&line->uart, burst, ARRAY_SIZE(burst), &count)))
+		return 0;
+	for (index = 0; index < count; index++) {
+		bytes[index] = burst[index].byte;
+		errors |= burst[index].errors;
+	}
+	if (!errors && passes_on(&line->port)) {
+		give_burst(&line->port, bytes, count);
+		return count;
+	}
+	for (index = 0; index < count; index++) {
+		give_character(&line->port, burst[index].byte, burst[index].errors | shown);
+		shown = 0;
+	}
+	return count;
+}
+
 /* Returns whether there was a character. */
 static bool receive(struct line *line)
 {
-	int count;
-	u8 byte;
+	size_t total = 0, count;
 
-	for (count = 0; count < MOST_CHARACTERS; count++) {
-		if (u16550_try_receive_byte(&line->uart, &byte) != U16550_OK)
-			break;
-		give_character(&line->port, byte, line->errors);
-	}
+	do {
+		count = receive_burst(line);
+		total += count;
+	} while (count == FIFO_SIZE && total < MOST_CHARACTERS);
 	tty_flip_buffer_push(&line->port.state->port);
-	return count > 0;
+	return total > 0;
 }
 
 /* ------------------------------------------------------------------ modem lines and breaks */
@@ -380,18 +715,12 @@ static unsigned int get_mctrl(struct uart_port *port)
 	       (msr & UART_MSR_DSR ? TIOCM_DSR : 0) | (msr & UART_MSR_CTS ? TIOCM_CTS : 0);
 }
 
-static u8 outputs_of(unsigned int mctrl)
-{
-	return (mctrl & TIOCM_DTR ? U16550_MCR_DTR : 0) | (mctrl & TIOCM_RTS ? U16550_MCR_RTS : 0) |
-	       (mctrl & TIOCM_OUT1 ? U16550_MCR_OUT_1 : 0) | (mctrl & TIOCM_OUT2 ? U16550_MCR_OUT_2_INT_ENABLE : 0);
-}
-
 static void set_mctrl(struct uart_port *port, unsigned int mctrl)
 {
 	struct line *line = line_of(port);
 
 	line->loops = mctrl & TIOCM_LOOP;
-	failed(line, "set_modem_control", u16550_set_modem_control(&line->uart, outputs_of(mctrl)));
+	failed(line, "set_modem_control", u16550_set_modem_control(&line->uart, outputs_of(line)));
 }
 
 static void enable_ms(struct uart_port *port)
@@ -430,7 +759,10 @@ static void break_ctl(struct uart_port *port, int state)
 /* serial_core asks for no more characters before it closes a port. */
 static void stop_rx(struct uart_port *port)
 {
-	disable(line_of(port), U16550_IER_DATA_READY | U16550_IER_RECEIVER_LINE_STATUS);
+	struct line *line = line_of(port);
+
+	line->hears = false;
+	disable(line, U16550_IER_DATA_READY | U16550_IER_RECEIVER_LINE_STATUS);
 }
 
 /* ------------------------------------------------------------------ the handler */
@@ -672,12 +1004,14 @@ static void look_when_awake(struct timer_list *timer)
 /* Sets the chip up, without interrupts, and does not wait: a port opens also while its other end takes nothing. */
 static int set_up(struct line *line)
 {
-	struct u16550_setup setup = { 1, U16550_WAIT_NEVER, outputs_of(line->port.mctrl) };
+	struct u16550_setup setup = { 1, U16550_WAIT_NEVER, outputs_of(line) };
+	int status;
 
 	line->interrupts = line->shown = line->vain_runs = line->missed = line->gone = 0;
 	line->is_broken = line->has_come = line->comes = line->is_masked = false;
 	line->is_polled = !line->port.irq;
-	return u16550_init_with(&line->uart, &line->config, &setup);
+	status = u16550_init_with(&line->uart, &line->config, &setup);
+	return status == U16550_OK && line->is_design_ware ? u16550_design_ware_fault(&line->uart, &line->own) : status;
 }
 
 /* Leaves the chip so that it interrupts nobody. */
@@ -690,8 +1024,9 @@ static void silence(struct uart_port *port)
 	port->mctrl &= ~TIOCM_OUT2;
 	line->is_open = false;
 	line->interrupts = 0;
+	end_bus(line);
 	failed(line, "set_break", u16550_set_break(&line->uart, 0));
-	failed(line, "quiesce", u16550_quiesce(&line->uart, outputs_of(port->mctrl), U16550_FIFOS_DISABLE));
+	failed(line, "quiesce", u16550_quiesce(&line->uart, outputs_of(line), U16550_FIFOS_DISABLE));
 	spin_unlock_irqrestore(&port->lock, flags);
 }
 
@@ -721,7 +1056,9 @@ static int startup(struct uart_port *port)
 	 * for that once, which shows whether the number is right.
 	 */
 	spin_lock_irqsave(&port->lock, flags);
-	line->is_open = true;
+	line->is_open = line->hears = true;
+	if (is_bus(line))
+		make_bus(line);
 	enable(line, U16550_IER_DATA_READY | U16550_IER_RECEIVER_LINE_STATUS | U16550_IER_THR_EMPTY);
 	mod_timer(&line->timer, jiffies + 1);
 	spin_unlock_irqrestore(&port->lock, flags);
@@ -737,6 +1074,7 @@ static void shutdown(struct uart_port *port)
 		free_irq(port->irq, line);
 	timer_delete_sync(&line->timer);
 	timer_delete_sync(&line->idle_timer);
+	hrtimer_cancel(&line->turning);
 }
 
 /* ------------------------------------------------------------------ baud rate, frame, and what the tty layer wants to know */
@@ -807,6 +1145,8 @@ static unsigned int set_frame(struct line *line, const struct ktermios *termios,
 		return baud;
 	/* No byte is lost that is in the FIFOs, and RTS and DTR stay as they are. */
 	failed(line, "set_frame", u16550_set_frame(&line->uart, &config));
+	if (line->is_design_ware)
+		failed(line, "set_frame", u16550_design_ware_fault(&line->uart, &line->own));
 	line->config = config;
 	return max(DIV_ROUND_CLOSEST(line->port.uartclk, config.frequency / config.baud_rate), 1u);
 }
@@ -822,11 +1162,22 @@ static void start_again(struct line *line)
 	send(line);
 }
 
+/* The rate that is asked for, or the chip's fastest or slowest. serial_core would go on with the rate that was set before. */
+static unsigned int rate_of(struct uart_port *port, struct ktermios *new, const struct ktermios *old)
+{
+	unsigned int slowest = DIV_ROUND_UP(port->uartclk, 16 * LARGEST_DIVISOR), fastest = port->uartclk / 16;
+	unsigned int asked = tty_termios_baud_rate(new), had = clamp(asked, slowest, fastest);
+
+	/* Rate 0 hangs up. */
+	if (asked && asked != had)
+		tty_termios_encode_baud_rate(new, had, had);
+	return uart_get_baud_rate(port, new, old, slowest, fastest);
+}
+
 static void set_termios(struct uart_port *port, struct ktermios *new, const struct ktermios *old)
 {
 	struct line *line = line_of(port);
-	unsigned int slowest = DIV_ROUND_UP(port->uartclk, 16 * 0xffff), fastest = port->uartclk / 16;
-	unsigned int wanted = uart_get_baud_rate(port, new, old, slowest, fastest), baud;
+	unsigned int wanted = rate_of(port, new, old), baud;
 	unsigned long flags;
 
 	spin_lock_irqsave(&port->lock, flags);
@@ -862,11 +1213,10 @@ static const char *type(struct uart_port *port)
 	return NULL;
 }
 
-/* Makes the library's drivers for the chip at these ports, without an access. The first one is made last: it is what a console looks at. */
+/* Makes the library's drivers for the chip. The first one is made last: it is what a console looks at. */
 static int make_drivers(struct line *line)
 {
-	struct u16550_io io = io_of(line);
-	int status = u16550_new_port(&line->debugger, &io, line->port.iobase);
+	int status = make_driver(line, &line->debugger, &line->debugged);
 
 	if (status == U16550_OK)
 		status = u16550_default_config(&line->config);
@@ -874,41 +1224,80 @@ static int make_drivers(struct line *line)
 	line->config.fifo_trigger_level = line->port.type == PORT_16450 ? 0 : TRIGGER_LEVEL;
 	/* serial_core looks at CTS, if the user wants that. */
 	line->config.check_cts_before_sending = 0;
-	line->base = line->port.iobase;
 	if (status == U16550_OK)
-		status = u16550_new_port(&line->uart, &io, line->port.iobase);
+		status = make_driver(line, &line->uart, &line->own);
 	if (status == U16550_OK)
 		status = set_patience(line, line->config.baud_rate);
 	return status;
 }
 
+/* Takes the region in which the registers are. */
+static int take_registers(struct line *line)
+{
+	struct uart_port *port = &line->port;
+
+	if (port->iotype == UPIO_PORT) {
+		if (!request_region(port->iobase, REGISTERS, KBUILD_MODNAME))
+			return -EBUSY;
+		line->base = port->iobase;
+		return 0;
+	}
+	if (!request_mem_region(port->mapbase, port->mapsize, KBUILD_MODNAME))
+		return -EBUSY;
+	port->membase = ioremap(port->mapbase, port->mapsize);
+	if (!port->membase) {
+		release_mem_region(port->mapbase, port->mapsize);
+		return -ENOMEM;
+	}
+	line->base = port->mapbase;
+	return 0;
+}
+
+/* Gives back the one that this line has, whatever serial_core believes that it is. */
+static void give_registers_back(struct line *line)
+{
+	struct uart_port *port = &line->port;
+	resource_size_t base = line->base;
+
+	line->base = 0;
+	if (!base)
+		return;
+	if (port->iotype == UPIO_PORT) {
+		release_region(base, REGISTERS);
+		return;
+	}
+	iounmap(port->membase);
+	port->membase = NULL;
+	release_mem_region(base, port->mapsize);
+}
+
 /*
- * Takes the chip's ports, and makes the drivers for them. serial_core calls this also when a port was moved by `setserial .. port`: nobody
- * may drive ports that he does not have.
+ * Takes the chip's registers, and makes the drivers for them. serial_core calls this also when a port was moved by `setserial .. port`:
+ * nobody may drive ports that he does not have.
  */
 static int request_port(struct uart_port *port)
 {
 	struct line *line = line_of(port);
 	unsigned long flags;
-	int status;
+	int status, error = take_registers(line);
 
-	if (!request_region(port->iobase, REGISTERS, KBUILD_MODNAME))
-		return -EBUSY;
+	if (error)
+		return error;
 	spin_lock_irqsave(&port->lock, flags);
 	status = make_drivers(line);
 	spin_unlock_irqrestore(&port->lock, flags);
 	if (status == U16550_OK)
 		return 0;
-	pr_err("%s: no driver for %#lx: %s\n", line->name, port->iobase, u16550_text(status));
-	release_region(port->iobase, REGISTERS);
+	dev_err(port->dev, "%s: no driver for the chip: %s\n", line->name, u16550_text(status));
+	give_registers_back(line);
 	return -EINVAL;
 }
 
-/* Gives the ports back that this line has, whatever serial_core believes that they are, and ends the drivers: they can reach nothing then. */
+/* Ends the drivers, which can reach nothing then, and gives the registers back. */
 static void release_port(struct uart_port *port)
 {
 	struct line *line = line_of(port);
-	unsigned long flags, base;
+	unsigned long flags;
 
 	/* Nobody closes the port of a console. */
 	if (line->is_open)
@@ -916,11 +1305,8 @@ static void release_port(struct uart_port *port)
 	spin_lock_irqsave(&port->lock, flags);
 	u16550_end(&line->uart);
 	u16550_end(&line->debugger);
-	base = line->base;
-	line->base = 0;
 	spin_unlock_irqrestore(&port->lock, flags);
-	if (base)
-		release_region(base, REGISTERS);
+	give_registers_back(line);
 }
 
 /* Whether the FIFOs are on, once they were turned on. A 16450 has none. */
@@ -948,13 +1334,14 @@ static int find_chip(struct line *line)
 	if (status == U16550_OK)
 		status = u16550_test_loopback(&line->uart, NULL);
 	if (status == U16550_OK)
-		status = u16550_quiesce(&line->uart, outputs_of(line->port.mctrl), U16550_FIFOS_DISABLE);
+		status = u16550_quiesce(&line->uart, outputs_of(line), U16550_FIFOS_DISABLE);
 	return status;
 }
 
 static void config_port(struct uart_port *port, int what)
 {
 	struct line *line = line_of(port);
+	unsigned long long where = port->iotype == UPIO_PORT ? port->iobase : port->mapbase;
 	unsigned long flags;
 	int status;
 
@@ -963,19 +1350,28 @@ static void config_port(struct uart_port *port, int what)
 	port->type = PORT_16550A;
 	if (request_port(port)) {
 		port->type = PORT_UNKNOWN;
-		pr_err("%s: the ports at %#lx belong to another driver\n", line->name, port->iobase);
+		pr_err("%s: the registers at %#llx belong to another driver\n", line->name, where);
 		return;
 	}
 	spin_lock_irqsave(&port->lock, flags);
 	status = find_chip(line);
 	spin_unlock_irqrestore(&port->lock, flags);
 	if (status != U16550_OK) {
-		pr_err("%s: no chip at %#lx: %s\n", line->name, port->iobase, u16550_text(status));
+		pr_err("%s: no chip at %#llx: %s\n", line->name, where, u16550_text(status));
 		release_port(port);
 		port->type = PORT_UNKNOWN;
 		return;
 	}
-	pr_info("%s: a chip at %#lx with interrupt %u has passed the loopback test\n", line->name, port->iobase, port->irq);
+	pr_info("%s: a chip at %#llx with interrupt %u has passed the loopback test\n", line->name, where, port->irq);
+}
+
+/* A chip may be moved to other I/O ports. Where one is in memory, its device says. */
+static bool has_good_place(const struct uart_port *port, const struct serial_struct *wanted)
+{
+	if (port->iotype == UPIO_PORT)
+		return wanted->port && wanted->port <= LAST_PORT - (REGISTERS - 1) && !wanted->port_high && !wanted->iomem_base &&
+		       !wanted->iomem_reg_shift;
+	return (unsigned long)wanted->iomem_base == port->mapbase && wanted->iomem_reg_shift == port->regshift && !wanted->port;
 }
 
 /* What a user may set by TIOCSSERIAL. What else he asks for changes nothing. */
@@ -983,9 +1379,7 @@ static int verify_port(struct uart_port *port, struct serial_struct *wanted)
 {
 	if (wanted->type != PORT_UNKNOWN && wanted->type != PORT_16450 && wanted->type != PORT_16550A)
 		return -EINVAL;
-	if (wanted->io_type != UPIO_PORT || wanted->iomem_base || wanted->iomem_reg_shift || wanted->hub6)
-		return -EINVAL;
-	if (!wanted->port || wanted->port > LAST_PORT - (REGISTERS - 1) || wanted->port_high)
+	if (wanted->io_type != port->iotype || wanted->hub6 || !has_good_place(port, wanted))
 		return -EINVAL;
 	if (wanted->custom_divisor < 0 || wanted->custom_divisor > LARGEST_DIVISOR)
 		return -EINVAL;
@@ -1057,39 +1451,16 @@ static const struct uart_ops operations = {
 static struct uart_driver driver;
 
 /*
- * Takes the lock. Returns whether it could be had: in a panic its owner may be another processor, which has stopped, or this one. Nobody
- * else has it for so long.
- */
-static bool lock_for_console(struct line *line, unsigned long *flags)
-{
-	int tries;
-
-	if (!oops_in_progress) {
-		spin_lock_irqsave(&line->port.lock, *flags);
-		return true;
-	}
-	for (tries = 0; tries < LOCK_TRIES && !line->is_taken_over; tries++) {
-		if (spin_trylock_irqsave(&line->port.lock, *flags))
-			return true;
-		udelay(LOCK_TRY_MICROSECONDS);
-	}
-	local_irq_save(*flags);
-	return false;
-}
-
-/*
  * Another driver takes the chip over, from the middle of a call that will never be done. The first driver is busy for ever. What it would
  * still have to do is lost, but for the text of the panic.
  */
 static void take_over(struct line *line)
 {
-	struct u16550_io io = io_of(line);
-
 	if (line->is_taken_over || !line->base)
 		return;
 	line->is_taken_over = true;
 	line->loops = false;
-	u16550_new_port(&line->last_words, &io, line->base);
+	make_driver(line, &line->last_words, &line->last);
 	u16550_set_spin_limit(&line->last_words, line->patience);
 	u16550_emergency(&line->last_words);
 }
@@ -1103,21 +1474,49 @@ static void put_character(struct uart_port *port, unsigned char character)
 		line->is_stalled = u16550_send_bytes_exact(line->console, &character, 1, NULL) != U16550_OK;
 }
 
+static void write_text(struct line *line, struct u16550 *uart, const char *text, unsigned int len)
+{
+	line->console = uart;
+	line->is_stalled = false;
+	uart_console_write(&line->port, text, len, put_character);
+}
+
+/*
+ * In a panic the lock's owner may be another processor, which has stopped, or this one. Nobody else has it for so long. Returns whether it
+ * could be had, and the text was written.
+ */
+static bool try_write(struct line *line, const char *text, unsigned int len)
+{
+	int tries;
+
+	for (tries = 0; tries < LOCK_TRIES && !line->is_taken_over; tries++) {
+		if (spin_trylock(&line->port.lock)) {
+			write_text(line, &line->uart, text, len);
+			spin_unlock(&line->port.lock);
+			return true;
+		}
+		udelay(LOCK_TRY_MICROSECONDS);
+	}
+	return false;
+}
+
 static void console_write(struct console *console, const char *text, unsigned int len)
 {
 	struct line *line = &lines[console->index];
 	unsigned long flags;
-	bool is_locked = lock_for_console(line, &flags);
 
-	if (!is_locked)
-		take_over(line);
-	line->console = is_locked ? &line->uart : &line->last_words;
-	line->is_stalled = false;
-	uart_console_write(&line->port, text, len, put_character);
-	if (is_locked)
+	if (!oops_in_progress) {
+		spin_lock_irqsave(&line->port.lock, flags);
+		write_text(line, &line->uart, text, len);
 		spin_unlock_irqrestore(&line->port.lock, flags);
-	else
-		local_irq_restore(flags);
+		return;
+	}
+	local_irq_save(flags);
+	if (!try_write(line, text, len)) {
+		take_over(line);
+		write_text(line, &line->last_words, text, len);
+	}
+	local_irq_restore(flags);
 }
 
 static int console_setup(struct console *console, char *options)
@@ -1220,7 +1619,7 @@ static struct line *free_line(int number)
 
 static int add_line(struct line *line, struct device *device, const struct u16550_tty_chip *chip)
 {
-	int error;
+	int error = 0;
 
 	memset(line, 0, sizeof(*line));
 	snprintf(line->name, sizeof(line->name), "%s%d", driver.dev_name, (int)(line - lines));
@@ -1228,17 +1627,30 @@ static int add_line(struct line *line, struct device *device, const struct u1655
 	INIT_WORK(&line->report, report);
 	timer_setup(&line->timer, look_in_time, 0);
 	timer_setup(&line->idle_timer, look_when_awake, TIMER_DEFERRABLE);
+	set_up_timer(&line->turning, turned);
 	line->port.ops = &operations;
 	line->port.line = line - lines;
-	line->port.iotype = UPIO_PORT;
+	line->port.iotype = chip->iotype;
 	line->port.iobase = chip->base;
+	line->port.mapbase = chip->memory;
+	line->port.mapsize = chip->size;
+	line->port.regshift = chip->shift;
+	line->is_design_ware = chip->is_design_ware;
 	line->port.irq = chip->irq;
 	line->port.uartclk = chip->frequency;
 	line->port.fifosize = FIFO_SIZE;
 	line->port.flags = UPF_BOOT_AUTOCONF;
 	line->port.has_sysrq = IS_ENABLED(CONFIG_MAGIC_SYSRQ_SERIAL);
 	line->port.dev = device;
-	error = uart_add_one_port(&driver, &line->port);
+	/* A bus needs a second driver of the same chip, which cannot know what the first one keeps of a DesignWare chip. */
+	if (!line->is_design_ware) {
+		line->port.rs485_config = set_rs485;
+		line->port.rs485_supported = rs485_supported;
+		error = uart_get_rs485_mode(&line->port);
+		line->direction = direction_of(&line->port.rs485);
+	}
+	if (!error)
+		error = uart_add_one_port(&driver, &line->port);
 	line->is_added = !error;
 	return error;
 }
@@ -1290,18 +1702,32 @@ void u16550_tty_remove(struct device *device)
 
 /* ------------------------------------------------------------------ the module */
 
+static int __init begin_firmware(void)
+{
+	int error = u16550_tty_begin_pnp();
+
+	if (error)
+		return error;
+	error = u16550_tty_begin_of();
+	if (error)
+		u16550_tty_end_pnp();
+	return error;
+}
+
 /* The user's ports are all that he wants of the board. A card has none of them before he names its numbers. */
 static int __init begin_devices(void)
 {
-	return u16550_tty_has_ports() ? u16550_tty_begin_ports() : u16550_tty_begin_pnp();
+	return u16550_tty_has_ports() ? u16550_tty_begin_ports() : begin_firmware();
 }
 
 static void end_devices(void)
 {
-	if (u16550_tty_has_ports())
+	if (u16550_tty_has_ports()) {
 		u16550_tty_end_ports();
-	else
+	} else {
+		u16550_tty_end_of();
 		u16550_tty_end_pnp();
+	}
 }
 
 static int __init begin(void)

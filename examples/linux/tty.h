@@ -1,18 +1,26 @@
 /* SPDX-License-Identifier: MIT OR GPL-2.0-only */
-/* What the files of the module share: tty.c drives the chips that pnp.c, pci.c and ports.c find. */
+/* What the files of the module share: tty.c drives the chips that pnp.c, pci.c, of.c and ports.c find. */
 #ifndef U16550_TTY_H
 #define U16550_TTY_H
 
 #include <linux/device.h>
 #include <linux/pm.h>
+#include <linux/serial_core.h>
 
 #define MOST_PORTS 8
 #define REGISTERS 8
 #define LAST_PORT 0xffff
 #define FREQUENCY 1843200		/* that of a PC */
 
+/* At the I/O ports of a PC. */
+#define PORT_CHIP { .iotype = UPIO_PORT, .frequency = FREQUENCY }
+
 struct u16550_tty_chip {
+	unsigned char iotype;		/* UPIO_PORT, or how registers in memory are accessed: UPIO_MEM, _MEM16, _MEM32, _MEM32BE */
 	unsigned long base;		/* its first I/O port */
+	resource_size_t memory, size;	/* where its registers in memory are */
+	u8 shift;			/* and as a power of two how far apart */
+	bool is_design_ware;
 	unsigned int irq;		/* 0: a timer looks at the chip */
 	unsigned int frequency;		/* at its clock input */
 };
@@ -42,6 +50,15 @@ void u16550_tty_end_pnp(void);
 #else
 static inline int u16550_tty_begin_pnp(void) { return 0; }
 static inline void u16550_tty_end_pnp(void) { }
+#endif
+
+/* Devices of a device tree. */
+#ifdef CONFIG_OF
+int u16550_tty_begin_of(void);
+void u16550_tty_end_of(void);
+#else
+static inline int u16550_tty_begin_of(void) { return 0; }
+static inline void u16550_tty_end_of(void) { }
 #endif
 
 /* Cards whose numbers the user names. */

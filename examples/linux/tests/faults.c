@@ -26,6 +26,10 @@ module_param(symbol, charp, 0444);
 
 static bool has_stopped;
 
+struct access {
+	unsigned long base, offset;
+};
+
 /* The context of read_register is a struct that begins with the port. */
 static void debug(struct uart_port *port)
 {
@@ -41,7 +45,7 @@ static void debug(struct uart_port *port)
 #endif
 }
 
-/* The functions are called with the context, and with the address of the register. */
+/* The functions are called with the context, and with the offset of the register. */
 static int before(struct kretprobe_instance *call, struct pt_regs *registers)
 {
 	if (!strcmp(fault, "debugger") && !has_stopped) {
@@ -50,25 +54,28 @@ static int before(struct kretprobe_instance *call, struct pt_regs *registers)
 	}
 	if (!strcmp(fault, "panic"))
 		panic("in the middle of a call");
-	*(unsigned long *)call->data = regs_get_kernel_argument(registers, 1);
+	*(struct access *)call->data = (struct access){
+		.base = ((struct uart_port *)regs_get_kernel_argument(registers, 0))->iobase,
+		.offset = regs_get_kernel_argument(registers, 1),
+	};
 	return 0;
 }
 
 static int behind(struct kretprobe_instance *call, struct pt_regs *registers)
 {
-	unsigned long address = *(unsigned long *)call->data;
+	struct access *access = (struct access *)call->data;
 
-	if (!strcmp(fault, "stuck") && (address & 7) == UART_IIR)
+	if (!strcmp(fault, "stuck") && access->offset == UART_IIR)
 		regs_set_return_value(registers, UNKNOWN_INTERRUPT);
-	if (!strcmp(fault, "stolen") && (address & 7) == UART_TX)
-		inb(address + UART_IIR);
+	if (!strcmp(fault, "stolen") && access->offset == UART_TX)
+		inb(access->base + UART_IIR);
 	return 0;
 }
 
 static struct kretprobe probe = {
 	.entry_handler = before,
 	.handler = behind,
-	.data_size = sizeof(unsigned long),
+	.data_size = sizeof(struct access),
 	.maxactive = 8,
 };
 

@@ -7,6 +7,7 @@ import socket
 import subprocess
 import threading
 import time
+from typing import NamedTuple
 
 SENT, RECEIVED = 3, 9  # the streams of terminal.c
 PIECE = 4096
@@ -143,20 +144,32 @@ class Task:
         return text
 
 
-class Guest:
-    """A guest. The serial port of a PCI card, its fifth, is that of a shell, which runs one line after the other."""
+class Machine(NamedTuple):
+    """An emulated machine, with a port for a shell, which is named when Linux is started."""
+    emulator: list
+    shell: list
+    append: str
 
-    def __init__(self, work, kernel, initramfs, more, append="", processors=1, environment=None, console="ttyS4"):
+
+# The shell's port is that of a PCI card. no_timer_check: a processor that the machine has no time for sees no tick of the timer, and Linux
+# would panic. earlyprintk: a panic before the console is there is heard too, on the card, which is the first device of the bus that is not
+# the board's own.
+PC = Machine(["qemu-system-x86_64", "-cpu", "max", "-m", "512"], ["-device", "pci-serial,chardev=shell"],
+             "no_timer_check earlyprintk=pciserial,00:02.0,115200")
+
+
+class Guest:
+    """A guest with a shell, which runs one line after the other. On a PC its port is the fifth."""
+
+    def __init__(self, work, kernel, initramfs, more, append="", processors=1, environment=None, console="ttyS4", shell="ttyS4", machine=PC):
         self.work, self.tasks, self.count, self.found, self.monitor = work, 0, 0, b"", None
-        # no_timer_check: a processor that the machine has no time for sees no tick of the timer, and Linux would panic. earlyprintk: a
-        # panic before the console is there is heard too, on the card, which is the first device of the bus that is not the board's own.
-        append = f"console={console} 8250.nr_uarts=8 panic=-1 no_timer_check earlyprintk=pciserial,00:02.0,115200 quiet {append}"
+        # What the kernel does not know is a variable of the first program.
+        append = f"console={console} shell={shell} 8250.nr_uarts=8 panic=-1 quiet {machine.append} {append}"
         with open(f"{work}/qemu.log", "wb") as log:
             self.process = subprocess.Popen(
-                ["qemu-system-x86_64", "-accel", "tcg", "-cpu", "max", "-smp", str(processors), "-m", "512", "-display", "none",
+                [*machine.emulator, "-accel", "tcg", "-smp", str(processors), "-display", "none",
                  "-nodefaults", "-no-reboot", "-kernel", kernel, "-initrd", initramfs, "-append", append,
-                 "-chardev", f"socket,id=shell,path={work}/shell,server=on,wait=on",
-                 "-device", "pci-serial,chardev=shell",
+                 "-chardev", f"socket,id=shell,path={work}/shell,server=on,wait=on", *machine.shell,
                  "-monitor", f"unix:{work}/monitor,server=on,wait=off", *more],
                 stdin=subprocess.DEVNULL, stderr=log, env=environment)
         CLOCK.process = self.process.pid

@@ -1,6 +1,6 @@
 /*
  * Gives a pseudo terminal modem lines, for QEMU's chardev `serial`: LD_PRELOAD=lines.so LINES=FILE qemu-system-x86_64 ..
- * The test and QEMU share the file: the test writes what comes in, and reads what goes out and how many breaks were sent.
+ * The test and QEMU share the file: the test writes what comes in, and reads what goes out, how many breaks were sent, and when RTS was on.
  */
 #define _GNU_SOURCE
 #include <dlfcn.h>
@@ -10,12 +10,28 @@
 #include <stdlib.h>
 #include <sys/ioctl.h>
 #include <sys/mman.h>
+#include <sys/uio.h>
 #include <termios.h>
+#include <time.h>
 #include <unistd.h>
 
 struct lines {
     int in, out, breaks;
+    int with_rts, without_rts; /* how many bytes went out while RTS was on, and while it was off */
+    int before, behind;        /* how many milliseconds RTS was on before the first byte of a turn and behind the last, at least */
+    int turns;
 };
+
+static int milliseconds(void)
+{
+    struct timespec time;
+
+    clock_gettime(CLOCK_MONOTONIC, &time);
+    return time.tv_sec % 100000 * 1000 + time.tv_nsec / 1000000;
+}
+
+/* When RTS was last switched on, and when the last byte went out; 0 if none has since then. */
+static int began, last;
 
 static struct lines *lines(void)
 {
@@ -32,6 +48,30 @@ static struct lines *lines(void)
     return shared;
 }
 
+static void keep_least(int *least, int found)
+{
+    if (found < *least)
+        *least = found;
+}
+
+/* What QEMU writes to the pseudo terminal. */
+ssize_t writev(int file, const struct iovec *pieces, int count)
+{
+    static ssize_t (*real)(int, const struct iovec *, int);
+    ssize_t written;
+
+    if (!real)
+        *(void **)&real = dlsym(RTLD_NEXT, "writev");
+    written = real(file, pieces, count);
+    if (written <= 0 || !isatty(file))
+        return written;
+    if (!last && lines()->out & TIOCM_RTS)
+        keep_least(&lines()->before, milliseconds() - began);
+    last = milliseconds();
+    *(lines()->out & TIOCM_RTS ? &lines()->with_rts : &lines()->without_rts) += written;
+    return written;
+}
+
 int ioctl(int file, unsigned long request, ...)
 {
     static int (*real)(int, unsigned long, void *);
@@ -46,7 +86,16 @@ int ioctl(int file, unsigned long request, ...)
         return 0;
     }
     if (request == TIOCMSET) {
-        lines()->out = *(int *)argument;
+        int out = *(int *)argument, changed = out ^ lines()->out;
+
+        if (changed & out & TIOCM_RTS) {
+            began = milliseconds();
+            last = 0;
+            lines()->turns++;
+        }
+        if (changed & ~out & TIOCM_RTS && last)
+            keep_least(&lines()->behind, milliseconds() - last);
+        lines()->out = out;
         return 0;
     }
     if (!real)

@@ -11,6 +11,9 @@
  * break DEVICE MILLISECONDS              sends a break
  * flow DEVICE BYTES                      sends with CRTSCTS until all is sent
  * loop DEVICE BYTES                      sends in the chip's loopback, and counts what comes
+ * bus DEVICE BEFORE AFTER BYTES COUNT     sends so many messages at an RS-485 bus, with RTS on so many milliseconds before and behind each
+ * cost DEVICE BYTES SIZE LOOP            sends in writes of this size, in the chip's loopback if LOOP is 1, and prints the time for a byte,
+ *                                        without what the processor had left. Where an instruction takes a nanosecond, it counts them
  * find DEVICE                            lets the driver find out which chip this is
  * chip DEVICE TYPE IRQ                   sets the type of the chip, as linux/serial_core.h has it, and the interrupt; 0 is none
  * discipline DEVICE NUMBER               sets the line discipline, as 18 for kernel PPS, and keeps the port open until it is ended
@@ -26,6 +29,8 @@
 #include <fcntl.h>
 #include <linux/serial.h>
 #include <poll.h>
+#include <sched.h>
+#include <signal.h>
 #include <stdint.h>
 #include <stdio.h>
 #include <stdlib.h>
@@ -228,7 +233,9 @@ static void change(int port, int count, int waits)
 
 static void rates(int port)
 {
-    static const unsigned wanted[] = { 50, 110, 134, 300, 9600, 31250, 38400, 57600, 74880, 100000, 115200, 230400 };
+    /* Those that are too fast or too slow follow one that is far from what they become. */
+    static const unsigned wanted[] = { 50, 110, 134, 300, 9600, 31250, 38400, 57600, 74880, 100000, 115200,
+                                       9600, 125000, 9600, 4000000, 9600, 1 };
     size_t i;
 
     ready(port);
@@ -312,6 +319,84 @@ static void loop(int port, int bytes)
     printf("loop: sent %d, came %d\n", sent, came);
 }
 
+static void bus(int port, int before_send, int after_send, int bytes, int count)
+{
+    struct serial_rs485 none = { 0 }, rs485 = {
+        .flags = SER_RS485_ENABLED | SER_RS485_RTS_ON_SEND, .delay_rts_before_send = before_send, .delay_rts_after_send = after_send,
+    };
+    uint8_t out[4096];
+    uint32_t sent = 0;
+    int message, i;
+
+    set_rate(port, TCSETS2, RATE, 0, CS8);
+    if (ioctl(port, TIOCSRS485, &rs485))
+        fail("TIOCSRS485");
+    ready(port);
+    for (message = 0; message < count; message++) {
+        for (i = 0; i < bytes; i++, sent++)
+            out[i] = byte_of(sent, SENT);
+        if (write(port, out, bytes) != bytes)
+            fail("write");
+        ioctl(port, TCSBRK, 1);
+        usleep(20000);
+    }
+    if (ioctl(port, TIOCGRS485, &rs485) || !(rs485.flags & SER_RS485_ENABLED) || ioctl(port, TIOCSRS485, &none))
+        fail("TIOCGRS485");
+    printf("bus: sent %u\n", sent);
+}
+
+static double time_of(clockid_t clock)
+{
+    struct timespec time;
+    clock_gettime(clock, &time);
+    return time.tv_sec * 1e9 + time.tv_nsec;
+}
+
+/* A program that takes what time nobody else wants. So a processor never sleeps, and what is left is what this one and the kernel took. */
+static pid_t spin(void)
+{
+    static const struct sched_param none;
+    pid_t spinner = fork();
+
+    if (spinner)
+        return spinner;
+    sched_setscheduler(0, SCHED_IDLE, &none);
+    for (;;)
+        __asm__ volatile("");
+}
+
+static void cost(int port, int bytes, int size, int loops)
+{
+    static uint8_t out[4096], in[4096];
+    int bit = LOOP, sent = 0, came = 0;
+    pid_t spinner = spin();
+    clockid_t spun;
+    double began, taken;
+
+    set_rate(port, TCSETS2, RATE, 0, CS8);
+    if (loops && ioctl(port, TIOCMBIS, &bit))
+        fail("TIOCM_LOOP");
+    clock_getcpuclockid(spinner, &spun);
+    began = time_of(CLOCK_MONOTONIC) - time_of(spun);
+    while (sent < bytes) {
+        ssize_t count = write(port, out, size);
+        if (count < 0)
+            fail("write");
+        for (sent += count; loops && came < sent; came += count) {
+            struct pollfd events = { port, POLLIN, 0 };
+            if (poll(&events, 1, PATIENCE * 1000) <= 0 || (count = read(port, in, sizeof in)) < 0) {
+                puts("cost: bytes are missing");
+                exit(1);
+            }
+        }
+    }
+    ioctl(port, TCSBRK, 1);
+    taken = time_of(CLOCK_MONOTONIC) - time_of(spun) - began;
+    kill(spinner, SIGKILL);
+    ioctl(port, TIOCMBIC, &bit);
+    printf("cost: %.1f\n", taken / bytes);
+}
+
 static void set_chip(int port, int type, int irq)
 {
     struct serial_struct serial;
@@ -391,6 +476,10 @@ int main(int count, char **words)
         flow(open_port(words[2], 0), atoi(more[0]));
     else if (!strcmp(command, "loop") && count == 4)
         loop(open_port(words[2], O_NONBLOCK), atoi(more[0]));
+    else if (!strcmp(command, "bus") && count == 7)
+        bus(open_port(words[2], 0), atoi(more[0]), atoi(more[1]), atoi(more[2]), atoi(more[3]));
+    else if (!strcmp(command, "cost") && count == 6)
+        cost(open_port(words[2], 0), atoi(more[0]), atoi(more[1]), atoi(more[2]));
     else if (!strcmp(command, "find") && count == 3)
         printf("find: %d\n", ioctl(open_port(words[2], O_NONBLOCK), TIOCSERCONFIG));
     else if (!strcmp(command, "chip") && count == 5)
