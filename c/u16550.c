@@ -242,6 +242,7 @@ struct uart_frame_error {
     struct uart_invalid_divisor_error invalid_baud_rate;
 };
 
+#ifndef U16550_OMIT_LOOPBACK
 enum uart_loopback_error_kind {
     UART_LOOPBACK_ERROR_NONE = 0,
     UART_LOOPBACK_ERROR_SEND_ERROR = 1,
@@ -263,15 +264,18 @@ struct uart_loopback_error {
     struct uart_bytes16 unexpected_loopback_msg_expected;
     struct uart_bytes16 unexpected_loopback_msg_actual;
 };
+#endif
 
 struct uart_bytes1 {
     uint8_t bytes[1];
 };
 
+#ifndef U16550_OMIT_LOOPBACK
 struct uart_maybe_bytes16 {
     bool is_some;
     struct uart_bytes16 value;
 };
+#endif
 
 struct uart_u64_or_stalled_error {
     bool is_error;
@@ -306,11 +310,14 @@ struct uart_expansion {
     size_t second;
 };
 
+#ifndef U16550_OMIT_DESIGN_WARE
 struct uart_maybe_lsr {
     bool is_some;
     uint8_t value;
 };
+#endif
 
+#ifndef U16550_OMIT_RINGS
 /* Why no rings were made: the first reason in this order. */
 enum uart_ring_error {
     UART_RING_ERROR_NONE = 0,
@@ -411,7 +418,9 @@ struct uart_ring_or_pair_of_driver_ring_error {
     struct uart_pair_of_driver_ring_error error;
     struct u16550_core_ring value;
 };
+#endif
 
+#ifndef U16550_OMIT_BUS
 struct uart_pair_of_driver_busy_error {
     struct u16550_core_driver first;
 };
@@ -433,7 +442,9 @@ struct uart_send_error {
     enum uart_send_error_kind kind;
     size_t stalled;
 };
+#endif
 
+#ifndef U16550_OMIT_TIMES
 struct uart_u64_or_invalid_divisor_error {
     struct uart_invalid_divisor_error error;
     uint64_t value;
@@ -475,6 +486,7 @@ struct uart_config_or_nearest_divisor_error {
     struct uart_nearest_divisor_error error;
     struct u16550_core_config value;
 };
+#endif
 
 struct uart_non_integer_baud_rate_error {
     uint32_t frequency;
@@ -494,20 +506,175 @@ struct uart_u32_or_non_integer_baud_rate_error {
     uint32_t value;
 };
 
+/* --------------------------------------------------------------- arithmetic */
+
+/*
+ * How many bits the numbers have that the processor divides, and those that it multiplies. For others a compiler calls a function of its
+ * library, which firmware may not have, or may have wrong. So they are computed by shifts.
+ */
+#if defined(UART_BY_SHIFTS)
+#define UART_DIVIDES 0
+#elif defined(__x86_64__) || defined(_M_X64) || defined(__aarch64__) || defined(_M_ARM64) || defined(__powerpc64__) || defined(__s390x__) || \
+    defined(__mips64) || defined(__loongarch64) || (defined(__sparc__) && defined(__arch64__)) || (defined(__riscv_div) && __riscv_xlen == 64)
+#define UART_DIVIDES 64
+#elif defined(__i386__) || defined(_M_IX86) || defined(__mips__) || defined(__powerpc__) || defined(__riscv_div) || defined(__ARM_FEATURE_IDIV)
+#define UART_DIVIDES 32
+#else
+#define UART_DIVIDES 0
+#endif
+
+/* A processor of 32 bits that gives both halves of a product multiplies 64 by some instructions. Thumb's first form gives one half, and AVR
+ * multiplies what an address takes. */
+#if defined(UART_BY_SHIFTS)
+#define UART_MULTIPLIES 0
+#elif (defined(__thumb__) && !defined(__thumb2__)) || defined(__AVR_HAVE_MUL__)
+#define UART_MULTIPLIES 32
+#elif UART_DIVIDES > 0 || defined(__arm__) || defined(__riscv_mul)
+#define UART_MULTIPLIES 64
+#else
+#define UART_MULTIPLIES 0
+#endif
+
+#if UART_DIVIDES < 32
+/* Divides bit by bit, as on paper. Returns the quotient, and puts what is left in the place of the dividend, which it never exceeds. */
+static uint32_t uart_divide_32(uint32_t *dividend, uint32_t divisor)
+{
+    uint32_t quotient = 0, left = 0;
+    for (unsigned bit = 0; bit < 32; bit++) {
+        left = left << 1 | *dividend >> 31;
+        *dividend <<= 1;
+        quotient <<= 1;
+        if (left >= divisor) {
+            left -= divisor;
+            quotient++;
+        }
+    }
+    *dividend = left;
+    return quotient;
+}
+#endif
+
+#if UART_DIVIDES < 64
+static inline uint32_t uart_quotient_32(uint32_t dividend, uint32_t divisor)
+{
+#if UART_DIVIDES >= 32
+    return dividend / divisor;
+#else
+    return uart_divide_32(&dividend, divisor);
+#endif
+}
+
+static inline uint32_t uart_rest_32(uint32_t dividend, uint32_t divisor)
+{
+#if UART_DIVIDES >= 32
+    return dividend % divisor;
+#else
+    (void)uart_divide_32(&dividend, divisor);
+    return dividend;
+#endif
+}
+
+static uint64_t uart_divide_64(uint64_t *dividend, uint64_t divisor)
+{
+    uint64_t quotient = 0, left = 0;
+    for (unsigned bit = 0; bit < 64; bit++) {
+        left = left << 1 | *dividend >> 63;
+        *dividend <<= 1;
+        quotient <<= 1;
+        if (left >= divisor) {
+            left -= divisor;
+            quotient++;
+        }
+    }
+    *dividend = left;
+    return quotient;
+}
+#endif
+
+static inline uint64_t uart_quotient_64(uint64_t dividend, uint64_t divisor)
+{
+#if UART_DIVIDES >= 64
+    return dividend / divisor;
+#else
+    /* As for a divisor of the chip. */
+    if (((dividend | divisor) >> 32) == 0)
+        return uart_quotient_32((uint32_t)dividend, (uint32_t)divisor);
+    return uart_divide_64(&dividend, divisor);
+#endif
+}
+
+static inline uint64_t uart_rest_64(uint64_t dividend, uint64_t divisor)
+{
+#if UART_DIVIDES >= 64
+    return dividend % divisor;
+#else
+    if (((dividend | divisor) >> 32) == 0)
+        return uart_rest_32((uint32_t)dividend, (uint32_t)divisor);
+    (void)uart_divide_64(&dividend, divisor);
+    return dividend;
+#endif
+}
+
+static inline uint64_t uart_product_64(uint64_t one, uint64_t other)
+{
+#if UART_MULTIPLIES >= 64
+    return one * other;
+#else
+    uint64_t product = 0;
+    for (; other != 0; one <<= 1, other >>= 1) {
+        if ((other & 1) != 0)
+            product += one;
+    }
+    return product;
+#endif
+}
+
+/* How many bytes so many items have. */
+static inline uintptr_t uart_times(uintptr_t number, uint8_t times)
+{
+#if UART_MULTIPLIES >= 32
+    return (uintptr_t)(number * times);
+#else
+    uintptr_t product = 0;
+    for (; times != 0; number = (uintptr_t)(number << 1), times >>= 1) {
+        if ((times & 1) != 0)
+            product = (uintptr_t)(product + number);
+    }
+    return product;
+#endif
+}
+
+/* How far a register is from the first one. A stride is a power of two, so that a compiler sees no product by an offset that it knows. */
+static inline uintptr_t uart_distance(uint8_t offset, uint8_t stride)
+{
+    uintptr_t distance = offset;
+#if UART_MULTIPLIES >= 32
+    distance = (uintptr_t)(distance * stride);
+#else
+    for (; stride > 1; stride >>= 1)
+        distance = (uintptr_t)(distance << 1);
+#endif
+    return distance;
+}
+
 /* --------------------------------------------------------------- the device */
+
+static inline uintptr_t uart_address(const struct u16550_device *device, uint8_t offset)
+{
+    return (uintptr_t)(device->base + uart_distance(offset, device->stride));
+}
 
 static inline uint8_t uart_device_read(struct u16550_device *device, uint8_t offset)
 {
-    uintptr_t address = (uintptr_t)(device->base + (uintptr_t)((uintptr_t)offset * device->stride));
-    return device->io.read(device->io.context, address);
+    return device->io.read(device->io.context, uart_address(device, offset));
 }
 
 static inline void uart_device_write(struct u16550_device *device, uint8_t offset, uint8_t value)
 {
-    uintptr_t address = (uintptr_t)(device->base + (uintptr_t)((uintptr_t)offset * device->stride));
-    device->io.write(device->io.context, address, value);
+    device->io.write(device->io.context, uart_address(device, offset), value);
 }
 
+#ifndef U16550_OMIT_DESIGN_WARE
 /* The register USR of a DesignWare UART lies beyond the eight. */
 enum { UART_USR = 31 };
 
@@ -515,12 +682,15 @@ static inline uint8_t uart_device_read_usr(struct u16550_device *device)
 {
     return uart_device_read(device, UART_USR);
 }
+#endif
 
+#ifndef U16550_OMIT_RINGS
 /* Memory of the caller, of which the rings take cells from the front. */
 struct uart_memory {
     uint8_t *data;
     size_t len;
 };
+#endif
 
 /* Whoever is asked whether to keep waiting. */
 struct uart_patience {
@@ -533,6 +703,7 @@ static inline bool uart_patience_keep_waiting(struct uart_patience *patience)
     return patience->keep_waiting(patience->context) != 0;
 }
 
+#ifndef U16550_OMIT_RINGS
 /* The ports of a line: see u16550_line_handle. */
 struct uart_line_ports {
     struct u16550_line_port *ports;
@@ -545,6 +716,7 @@ static inline size_t uart_line_ports_number(const struct uart_line_ports *ports)
 static bool
 uart_line_ports_lower(struct uart_line_ports *ports, size_t port, size_t limit, uint32_t rounds);
 static void uart_line_ports_raise(struct uart_line_ports *ports, size_t port);
+#endif
 
 /* Copies so many bytes between two places that do not overlap. */
 static inline void uart_copy_bytes(uint8_t *to, const uint8_t *from, size_t count)
@@ -553,13 +725,16 @@ static inline void uart_copy_bytes(uint8_t *to, const uint8_t *from, size_t coun
         to[i] = from[i];
 }
 
+#ifndef U16550_OMIT_LOOPBACK
 /* Sets so many bytes to one value. */
 static inline void uart_fill_bytes(uint8_t *to, uint8_t value, size_t count)
 {
     for (size_t i = 0; i < count; i++)
         to[i] = value;
 }
+#endif
 
+#ifndef U16550_OMIT_DESIGN_WARE
 /* Moves the first of some characters behind the others. */
 static inline void uart_first_to_last(struct u16550_received *items, size_t count)
 {
@@ -568,7 +743,9 @@ static inline void uart_first_to_last(struct u16550_received *items, size_t coun
         items[i - 1] = items[i];
     items[count - 1] = first;
 }
+#endif
 
+#ifndef U16550_OMIT_LOOPBACK
 /* Returns whether so many bytes are the same. */
 static inline bool uart_same_bytes(const uint8_t *one, const uint8_t *other, size_t count)
 {
@@ -581,6 +758,7 @@ static inline bool uart_same_bytes(const uint8_t *one, const uint8_t *other, siz
 
 static const uint8_t uart_echo_whole_bytes[16] =
     { 104, 101, 108, 108, 111, 32, 119, 111, 114, 108, 100, 33, 49, 51, 51, 55 };
+#endif
 
 static const uint8_t uart_expansion_of_bytes[3] = { 8, 32, 8 };
 
@@ -917,6 +1095,7 @@ static inline struct uart_frame_error uart_frame_error_none(void)
     return made;
 }
 
+#ifndef U16550_OMIT_LOOPBACK
 static inline struct uart_loopback_error uart_loopback_error_stalled(void)
 {
     struct uart_loopback_error made =
@@ -970,6 +1149,7 @@ uart_loopback_error_unexpected_loopback_msg(struct uart_bytes16 unexpected_loopb
         unexpected_loopback_msg_expected, unexpected_loopback_msg_actual };
     return made;
 }
+#endif
 
 static inline struct uart_u64_or_stalled_error uart_good_u64_or_stalled_error(uint64_t value)
 {
@@ -995,6 +1175,7 @@ static inline struct uart_expansion uart_make_expansion(struct uart_bytes3 first
     return made;
 }
 
+#ifndef U16550_OMIT_DESIGN_WARE
 static inline struct uart_maybe_lsr uart_no_lsr(void)
 {
     struct uart_maybe_lsr made = { false, 0 };
@@ -1019,7 +1200,9 @@ static inline struct u16550_core_maybe_design_ware_fault uart_no_design_ware_fau
         { false, U16550_CORE_DESIGN_WARE_FAULT_LINE_CONTROL_IGNORED };
     return made;
 }
+#endif
 
+#ifndef U16550_OMIT_RINGS
 static inline struct uart_maybe_byte_queue uart_no_byte_queue(void)
 {
     struct uart_maybe_byte_queue made = { false, { { NULL, 0, 0 }, 0, 0 } };
@@ -1152,7 +1335,9 @@ uart_make_lowered(struct uart_handled_or_stuck_error handled, uint8_t enabled)
     struct uart_lowered made = { handled, enabled };
     return made;
 }
+#endif
 
+#ifndef U16550_OMIT_BUS
 static inline struct u16550_core_half_duplex
 uart_make_half_duplex(struct u16550_core_driver uart, struct u16550_core_direction direction)
 {
@@ -1177,6 +1362,7 @@ static inline struct uart_send_error uart_send_error_none(void)
     struct uart_send_error made = { UART_SEND_ERROR_NONE, 0 };
     return made;
 }
+#endif
 
 static inline struct u16550_core_baud_rate uart_baud_rate_baud115200(void)
 {
@@ -1244,6 +1430,7 @@ static inline struct u16550_core_baud_rate uart_baud_rate_custom(uint32_t custom
     return made;
 }
 
+#ifndef U16550_OMIT_TIMES
 static inline struct uart_maybe_maybe_u32 uart_some_maybe_u32(struct u16550_core_maybe_u32 value)
 {
     struct uart_maybe_maybe_u32 made = { true, value };
@@ -1333,6 +1520,7 @@ uart_good_config_or_nearest_divisor_error(struct u16550_core_config value)
         { { UART_NEAREST_DIVISOR_ERROR_NONE, 0, 0 }, value };
     return made;
 }
+#endif
 
 static inline struct uart_non_integer_baud_rate_error
 uart_make_non_integer_baud_rate_error(uint32_t frequency, uint32_t divisor,
@@ -1548,8 +1736,8 @@ static inline bool uart_config_is_computable(const struct u16550_core_config *co
 static inline struct u16550_core_maybe_u32 uart_whole_quotient(uint32_t dividend, uint64_t divisor)
 {
     uint64_t dividend2 = (uint64_t)dividend;
-    if (dividend2 % divisor == 0)
-        return uart_some_u32((uint32_t)(dividend2 / divisor));
+    if (uart_rest_64(dividend2, divisor) == 0)
+        return uart_some_u32((uint32_t)uart_quotient_64(dividend2, divisor));
     return uart_no_u32();
 }
 
@@ -1567,8 +1755,9 @@ uart_other_factor(uint32_t frequency, uint32_t factor,
     struct u16550_core_maybe_u32 prescaler_division_factor)
 {
     return uart_whole_quotient(frequency,
+        uart_product_64(
         16 * ((uint64_t)(prescaler_division_factor.is_some ? prescaler_division_factor.value
-        : 0) + 1) * (uint64_t)factor);
+        : 0) + 1), (uint64_t)factor));
 }
 
 /*
@@ -3821,6 +4010,7 @@ uart_try_send_byte(struct u16550_core_driver *uart, uint8_t byte)
     return UART_BYTE_SEND_ERROR_NONE;
 }
 
+#ifndef U16550_OMIT_LOOPBACK
 /*
  * Sends the test byte, and compares what returns.
  *
@@ -3995,6 +4185,7 @@ static struct uart_loopback_error uart_test_loopback(struct u16550_core_driver *
     uart_leave_loopback(uart, mcr, ier, before, noted);
     return outcome;
 }
+#endif
 
 /*
  * Waits until some bytes were received, and returns how many.
@@ -4148,6 +4339,7 @@ uart_tty_write_raw_text(struct uart_tty *tty, const uint8_t *text, size_t text_l
     return uart_no_stalled_error();
 }
 
+#ifndef U16550_OMIT_DESIGN_WARE
 /*
  * Reads a register.
  *
@@ -4741,7 +4933,9 @@ uart_design_ware_new(struct u16550_device registers, uint64_t patience)
     design_ware.fault = uart_no_design_ware_fault();
     return design_ware;
 }
+#endif
 
+#ifndef U16550_OMIT_RINGS
 /*
  * Handles the interrupt of a line that several ports share, whether the controller detects levels
  * or edges. Returns whether an interrupt was served at one of them.
@@ -6215,7 +6409,9 @@ static inline struct u16550_core_maybe_u8 uart_ring_urgent(const struct u16550_c
 {
     return ring->urgent;
 }
+#endif
 
+#ifndef U16550_OMIT_BUS
 /*
  * Waits until the transmitter is empty, at most spin_limit polls of LSR, as flush of the
  * driver does. The direction stays as it is.
@@ -6273,6 +6469,7 @@ static inline uint8_t uart_half_duplex_lsr(struct u16550_core_half_duplex *half_
 {
     return uart_lsr(&half_duplex->uart);
 }
+#endif
 
 /* Returns whether the bit of the output is set in this direction. */
 static inline bool uart_direction_level(struct u16550_core_direction direction, bool sends)
@@ -6307,6 +6504,7 @@ uart_direction_turned(struct u16550_core_direction direction, bool sends, uint8_
     return mcr & (uint8_t)~uart_direction_flow(direction);
 }
 
+#ifndef U16550_OMIT_BUS
 /*
  * Switches the transceiver to send, or to receive.
  *
@@ -6477,6 +6675,7 @@ static inline void uart_half_duplex_start_sending(struct u16550_core_half_duplex
 {
     uart_half_duplex_turn(half_duplex, true);
 }
+#endif
 
 /*
  * Returns these outputs with the line as it is to be while the transceiver receives: of RTS
@@ -6528,6 +6727,7 @@ static struct u16550_core_baud_rate uart_baud_rate_from_integer(uint32_t value)
     }
 }
 
+#ifndef U16550_OMIT_TIMES
 /*
  * Returns the factor if it is a factor. It is taken apart and put together again, so that the
  * compiler sees that the test of the called function holds, and leaves no path to its panic.
@@ -6640,8 +6840,8 @@ uart_config_character_clocks(const struct u16550_core_config *config)
     if (outcome.error.kind != UART_INVALID_DIVISOR_ERROR_NONE)
         return uart_bad_u64_or_invalid_divisor_error(outcome.error);
     return uart_good_u64_or_invalid_divisor_error(
-        8 * ((uint64_t)(factor.is_some ? factor.value : 0) +
-        1) * (uint64_t)outcome.value * uart_halves(config));
+        uart_product_64(uart_product_64(8 * ((uint64_t)(factor.is_some ? factor.value : 0) + 1),
+        (uint64_t)outcome.value), uart_halves(config)));
 }
 
 /*
@@ -6663,7 +6863,7 @@ uart_config_characters_in(const struct u16550_core_config *config, uint64_t cloc
     struct uart_u64_or_invalid_divisor_error outcome = uart_config_character_clocks(config);
     if (outcome.error.kind != UART_INVALID_DIVISOR_ERROR_NONE)
         return uart_bad_u64_or_invalid_divisor_error(outcome.error);
-    return uart_good_u64_or_invalid_divisor_error(clocks / outcome.value + 1);
+    return uart_good_u64_or_invalid_divisor_error(uart_quotient_64(clocks, outcome.value) + 1);
 }
 
 /*
@@ -6675,15 +6875,15 @@ uart_scaled(uint64_t value, uint32_t times, uint32_t per, uint32_t more)
 {
     if (per == 0)
         return uart_no_u64();
-    uint64_t number = value / (uint64_t)per;
-    uint64_t number2 = (uint64_t)times;
+    uint64_t quotient = uart_quotient_64(value, (uint64_t)per);
+    uint64_t number = (uint64_t)times;
     struct uart_maybe_u64 found;
-    if (number2 == 0) {
+    if (number == 0) {
         found = uart_some_u64(0);
     } else {
         struct uart_maybe_u64 found2;
-        if (number <= (uint64_t)-1 / number2)
-            found2 = uart_some_u64(number * number2);
+        if (quotient <= uart_quotient_64((uint64_t)-1, number))
+            found2 = uart_some_u64(uart_product_64(quotient, number));
         else
             found2 = uart_no_u64();
         found = found2;
@@ -6691,10 +6891,12 @@ uart_scaled(uint64_t value, uint32_t times, uint32_t per, uint32_t more)
     struct uart_maybe_u64 found3 = found;
     if (!found3.is_some)
         return uart_no_u64();
-    uint64_t number3 = (value % (uint64_t)per * (uint64_t)times + (uint64_t)more) / (uint64_t)per;
-    if ((uint64_t)-1 - number3 < found3.value)
+    uint64_t quotient2 =
+        uart_quotient_64(uart_product_64(uart_rest_64(value, (uint64_t)per), (uint64_t)times) +
+        (uint64_t)more, (uint64_t)per);
+    if ((uint64_t)-1 - quotient2 < found3.value)
         return uart_no_u64();
-    return uart_some_u64(found3.value + number3);
+    return uart_some_u64(found3.value + quotient2);
 }
 
 /*
@@ -6741,7 +6943,7 @@ uart_config_drain_clocks(const struct u16550_core_config *config, uint8_t size)
     struct uart_u64_or_invalid_divisor_error outcome = uart_config_character_clocks(config);
     if (outcome.error.kind != UART_INVALID_DIVISOR_ERROR_NONE)
         return uart_bad_u64_or_invalid_divisor_error(outcome.error);
-    return uart_good_u64_or_invalid_divisor_error(number * outcome.value);
+    return uart_good_u64_or_invalid_divisor_error(uart_product_64(number, outcome.value));
 }
 
 /*
@@ -6842,7 +7044,7 @@ uart_config_handler_budget(const struct u16550_core_config *config, uint8_t size
         return uart_bad_maybe_u64_or_invalid_divisor_error(outcome.error);
     if (outcome.value / 2 < access_clocks)
         return uart_good_maybe_u64_or_invalid_divisor_error(uart_no_u64());
-    uint64_t most = ((uint64_t)uart_spare(config, size) + 1) * outcome.value - 1;
+    uint64_t most = uart_product_64((uint64_t)uart_spare(config, size) + 1, outcome.value) - 1;
     uint64_t number = 4 * access_clocks;
     uint64_t number2 = before_clocks <= (uint64_t)-1 - number ? before_clocks + number
         : (uint64_t)-1;
@@ -6884,8 +7086,9 @@ uart_config_nanoseconds_within(const struct u16550_core_config *config, uint64_t
 static inline uint64_t
 uart_ticks_of(uint32_t baud_rate, struct u16550_core_maybe_u32 prescaler_division_factor)
 {
-    return 16 * ((uint64_t)(prescaler_division_factor.is_some ? prescaler_division_factor.value
-        : 0) + 1) * (uint64_t)baud_rate;
+    return uart_product_64(
+        16 * ((uint64_t)(prescaler_division_factor.is_some ? prescaler_division_factor.value
+        : 0) + 1), (uint64_t)baud_rate);
 }
 
 /*
@@ -6899,9 +7102,10 @@ uart_ticks_of(uint32_t baud_rate, struct u16550_core_maybe_u32 prescaler_divisio
  */
 static inline uint64_t uart_nearest_factor(uint64_t frequency, uint64_t ticks)
 {
-    uint64_t below = frequency / ticks;
+    uint64_t below = uart_quotient_64(frequency, ticks);
     uint64_t above = below + 1;
-    return 2 * (ticks * below * above) <= frequency * (below + above) ? above : below;
+    return 2 * uart_product_64(uart_product_64(ticks, below), above) <= uart_product_64(frequency,
+        below + above) ? above : below;
 }
 
 /*
@@ -6938,13 +7142,13 @@ uart_config_nearest(struct u16550_core_config config, uint32_t per_mille)
         uart_ticks_of(uart_baud_rate_to_integer(config.baud_rate),
         config.prescaler_division_factor);
     uint64_t divisor = uart_nearest_factor(frequency, ticks);
-    uint64_t exact = ticks * divisor;
+    uint64_t exact = uart_product_64(ticks, divisor);
     if ((UINT32_C(65535) < divisor) || (UINT32_C(4294967295) < exact)) {
         return uart_bad_config_or_nearest_divisor_error(
             uart_nearest_divisor_error_out_of_range(divisor));
     }
-    if ((uint64_t)per_mille * exact <
-        1000 * (exact < frequency ? frequency - exact : exact - frequency)) {
+    if (uart_product_64((uint64_t)per_mille, exact) < uart_product_64(1000,
+        exact < frequency ? frequency - exact : exact - frequency)) {
         return uart_bad_config_or_nearest_divisor_error(
             uart_nearest_divisor_error_too_far(divisor));
     }
@@ -6988,9 +7192,8 @@ uart_config_spin_limit_for(const struct u16550_core_config *config, uint8_t size
     if (access_clocks == 0)
         return uart_good_maybe_u64_or_invalid_divisor_error(uart_no_u64());
     return uart_good_maybe_u64_or_invalid_divisor_error(
-        uart_some_u64(
-        ((uint64_t)uart_fifo_size_characters(size) + 1) * ((outcome.value - 1) / access_clocks +
-        1 + 1)));
+        uart_some_u64(uart_product_64((uint64_t)uart_fifo_size_characters(size) + 1,
+        uart_quotient_64(outcome.value - 1, access_clocks) + 1 + 1)));
 }
 
 /*
@@ -7012,6 +7215,7 @@ uart_config_timeout_clocks(const struct u16550_core_config *config)
         return uart_bad_u64_or_invalid_divisor_error(outcome.error);
     return uart_good_u64_or_invalid_divisor_error(4 * outcome.value);
 }
+#endif
 
 /*
  * Returns the baud rate that a divisor gives at a clock frequency in hertz. Nothing is rounded.
@@ -7069,6 +7273,7 @@ uart_config_register_dump_baud_rate(const struct u16550_dump *config_register_du
         uart_baud_rate_from_integer(outcome.value));
 }
 
+#ifndef U16550_OMIT_RINGS
 /*
  * Returns the low nibble of an ISR value that identifies this interrupt.
  *
@@ -7115,6 +7320,7 @@ uart_cells_in_memory(struct uart_memory *memory, uint8_t value, size_t count)
         made.value.data[i] = value;
     return made;
 }
+#endif
 
 /* Marks memory with a driver in it, and a call that is not done. Either is unlikely in other memory. */
 #define UART_MARK UINT32_C(0x16550a5e)
@@ -7133,11 +7339,19 @@ UART_ALIGNMENT(io, struct u16550_io);
 UART_ALIGNMENT(config, struct u16550_config);
 UART_ALIGNMENT(state, struct u16550_state);
 UART_ALIGNMENT(difference, struct u16550_difference);
+#ifndef U16550_OMIT_RINGS
 UART_ALIGNMENT(handled, struct u16550_handled);
 UART_ALIGNMENT(port, struct u16550_line_port);
+#endif
+#ifndef U16550_OMIT_DESIGN_WARE
 UART_ALIGNMENT(chip, struct u16550_design_ware);
+#endif
+#ifndef U16550_OMIT_RINGS
 UART_ALIGNMENT(notes, struct u16550_notes);
+#endif
+#ifndef U16550_OMIT_BUS
 UART_ALIGNMENT(bus, struct u16550_bus);
+#endif
 UART_ALIGNMENT(size, size_t);
 UART_ALIGNMENT(u64, uint64_t);
 UART_ALIGNMENT(u32, uint32_t);
@@ -7158,7 +7372,7 @@ static inline int uart_unless(bool holds, int status)
 
 static inline int uart_aligned(const void *at, size_t alignment)
 {
-    return uart_unless((uintptr_t)at % alignment == 0, U16550_MISALIGNED);
+    return uart_unless(((uintptr_t)at & (alignment - 1)) == 0, U16550_MISALIGNED);
 }
 
 /* Refuses a pointer that is null or not aligned. */
@@ -7167,8 +7381,8 @@ static int uart_usable(const void *at, size_t alignment)
     return at == NULL ? U16550_NULL_POINTER : uart_aligned(at, alignment);
 }
 
-/* Refuses an array that cannot be: of items of this size. One of none may be anywhere. */
-static int uart_array(const void *at, size_t len, size_t item, size_t alignment)
+/* Refuses an array that cannot be: of items of this size, of which so many are half of all memory. One of none may be anywhere. */
+static int uart_items(const void *at, size_t len, size_t item, size_t half, size_t alignment)
 {
     uintptr_t start = (uintptr_t)at;
     int status;
@@ -7177,10 +7391,13 @@ static int uart_array(const void *at, size_t len, size_t item, size_t alignment)
     status = uart_usable(at, alignment);
     if (status != U16550_OK)
         return status;
-    if (len > (SIZE_MAX / 2) / item || start > UINTPTR_MAX - len * item)
+    if (len > half || start > UINTPTR_MAX - uart_times(len, (uint8_t)item))
         return U16550_BAD_LENGTH;
     return U16550_OK;
 }
+
+/* The same. A compiler divides. */
+#define uart_array(at, len, item, alignment) uart_items(at, len, item, (SIZE_MAX / 2) / (item), alignment)
 
 /* Begins a call over a driver, unless there is none or a call over it is not done. */
 static int uart_enter(struct u16550 *uart)
@@ -7202,6 +7419,7 @@ static int uart_enter(struct u16550 *uart)
     return U16550_OK;
 }
 
+#ifndef U16550_OMIT_RINGS
 /* The same for a call over the rings. */
 static int uart_enter_rings(struct u16550 *uart)
 {
@@ -7212,6 +7430,7 @@ static int uart_enter_rings(struct u16550 *uart)
     }
     return status;
 }
+#endif
 
 /* Ends a call, and returns its status. */
 static inline int uart_leave(struct u16550 *uart, int status)
@@ -7424,6 +7643,7 @@ static int uart_decode_direction_line(uint8_t from, uint8_t *to)
     }
 }
 
+#ifndef U16550_OMIT_DESIGN_WARE
 static int uart_encode_design_ware_fault(uint8_t from)
 {
     switch (from) {
@@ -7434,7 +7654,9 @@ static int uart_encode_design_ware_fault(uint8_t from)
         return U16550_DESIGN_WARE_INTERRUPT;
     }
 }
+#endif
 
+#ifndef U16550_OMIT_RINGS
 static uint8_t uart_encode_handle_end(enum uart_handle_end from)
 {
     switch (from) {
@@ -7447,6 +7669,7 @@ static uint8_t uart_encode_handle_end(enum uart_handle_end from)
         return U16550_HANDLE_LIMIT;
     }
 }
+#endif
 
 static int uart_status_of_attach_error(const enum uart_attach_error *error)
 {
@@ -7555,6 +7778,7 @@ static int uart_status_of_invalid_divisor_error(const struct uart_invalid_diviso
     }
 }
 
+#ifndef U16550_OMIT_LOOPBACK
 static int uart_status_of_loopback_error(const struct uart_loopback_error *error)
 {
     switch (error->kind) {
@@ -7572,7 +7796,9 @@ static int uart_status_of_loopback_error(const struct uart_loopback_error *error
         return U16550_LOOPBACK_STALLED;
     }
 }
+#endif
 
+#ifndef U16550_OMIT_TIMES
 static int uart_status_of_nearest_divisor_error(const struct uart_nearest_divisor_error *error)
 {
     switch (error->kind) {
@@ -7585,6 +7811,7 @@ static int uart_status_of_nearest_divisor_error(const struct uart_nearest_diviso
         return U16550_NEAREST_OUT_OF_RANGE;
     }
 }
+#endif
 
 static int uart_status_of_remote_ready_to_receive_error(const enum uart_remote_ready_to_receive_error *error)
 {
@@ -7601,6 +7828,7 @@ static int uart_status_of_remote_ready_to_receive_error(const enum uart_remote_r
     }
 }
 
+#ifndef U16550_OMIT_RINGS
 static int uart_status_of_ring_error(const enum uart_ring_error *error)
 {
     switch (*error) {
@@ -7613,7 +7841,9 @@ static int uart_status_of_ring_error(const enum uart_ring_error *error)
         return U16550_RING_OUT_OF_MEMORY;
     }
 }
+#endif
 
+#ifndef U16550_OMIT_BUS
 static int uart_status_of_send_error(const struct uart_send_error *error)
 {
     switch (error->kind) {
@@ -7626,7 +7856,9 @@ static int uart_status_of_send_error(const struct uart_send_error *error)
         return U16550_STALLED;
     }
 }
+#endif
 
+#ifndef U16550_OMIT_RINGS
 static int uart_status_of_stuck_error(const struct u16550_core_stuck_error *error)
 {
     switch (error->kind) {
@@ -7639,6 +7871,7 @@ static int uart_status_of_stuck_error(const struct u16550_core_stuck_error *erro
         return U16550_RING_STUCK_PENDING;
     }
 }
+#endif
 
 /* --------------------------------------------------------------- data of the header as those of the driver, and back */
 
@@ -7674,26 +7907,6 @@ static int uart_decode_config(const struct u16550_config *from, struct u16550_co
     return status;
 }
 
-/*
- * Whether the divisor of a configuration, if there is one, is what was to be computed. That is proved, but where a processor has no division
- * of 64-bit numbers a function divides that the program may bring along, and one that is wrong is not to put a divisor into the chip, as 0.
- */
-static bool uart_is_divided(const struct u16550_core_config *config)
-{
-    uint32_t baud_rate = uart_baud_rate_to_integer(config->baud_rate);
-    uint64_t ticks = 16 * (uint64_t)baud_rate;
-    struct uart_u16_or_invalid_divisor_error found;
-    /* A processor of 64 bits has an instruction for it, which no program replaces. */
-    if (sizeof(void *) > 4)
-        return true;
-    found = uart_calc_divisor(config->frequency, baud_rate, config->prescaler_division_factor);
-    if (found.error.kind != UART_INVALID_DIVISOR_ERROR_NONE)
-        return true;
-    if (config->prescaler_division_factor.is_some)
-        ticks *= config->prescaler_division_factor.value + 1;
-    return ticks * found.value == config->frequency;
-}
-
 /* The same, if a divisor can be computed. */
 static int uart_decode_computable(const struct u16550_config *from, struct u16550_core_config *to)
 {
@@ -7702,7 +7915,7 @@ static int uart_decode_computable(const struct u16550_config *from, struct u1655
         status = uart_decode_config(from, to);
     if (status != U16550_OK)
         return status;
-    return uart_unless(uart_config_is_computable(to) && uart_is_divided(to), U16550_NOT_COMPUTABLE);
+    return uart_unless(uart_config_is_computable(to), U16550_NOT_COMPUTABLE);
 }
 
 static void uart_encode_config(const struct u16550_core_config *from, struct u16550_config *to)
@@ -7760,6 +7973,7 @@ static int uart_decode_setup(const struct u16550_setup *from, struct uart_setup 
     return U16550_OK;
 }
 
+#ifndef U16550_OMIT_RINGS
 static struct uart_receive_marks uart_marks(size_t hold, size_t release)
 {
     struct uart_receive_marks marks;
@@ -7767,7 +7981,9 @@ static struct uart_receive_marks uart_marks(size_t hold, size_t release)
     marks.release = release;
     return marks;
 }
+#endif
 
+#ifndef U16550_OMIT_LOOPBACK
 static void uart_encode_failure(const struct uart_loopback_error *error, struct u16550_loopback_failure *to)
 {
     to->expected = error->unexpected_loopback_byte_expected;
@@ -7775,6 +7991,7 @@ static void uart_encode_failure(const struct uart_loopback_error *error, struct 
     uart_copy_bytes(to->expected_msg, error->unexpected_loopback_msg_expected.bytes, 16);
     uart_copy_bytes(to->actual_msg, error->unexpected_loopback_msg_actual.bytes, 16);
 }
+#endif
 
 static struct u16550_difference uart_difference(unsigned expected, unsigned shown)
 {
@@ -7802,6 +8019,7 @@ static struct u16550_difference uart_encode_difference(const struct uart_configu
     }
 }
 
+#ifndef U16550_OMIT_RINGS
 static struct u16550_handled uart_encode_handled(struct uart_handled from)
 {
     struct u16550_handled made = { from.served, uart_encode_handle_end(from.end) };
@@ -7813,6 +8031,7 @@ static struct u16550_urgent uart_encode_urgent(struct u16550_core_maybe_u8 urgen
     struct u16550_urgent made = { urgent.is_some, (uint8_t)(urgent.is_some ? urgent.value : 0) };
     return made;
 }
+#endif
 
 /* A byte that goes first, if there is one. */
 static int uart_decode_urgent(const uint8_t *from, struct u16550_core_maybe_u8 *to)
@@ -7888,7 +8107,7 @@ static int uart_check_place(uintptr_t base, uint8_t stride)
         return U16550_BAD_BASE;
     if (stride == 0 || (stride & (stride - 1)) != 0)
         return U16550_BAD_STRIDE;
-    return uart_if(base > UINTPTR_MAX - (uintptr_t)UART_SPR * stride, U16550_BAD_BASE);
+    return uart_if(base > UINTPTR_MAX - uart_distance(UART_SPR, stride), U16550_BAD_BASE);
 }
 
 int (u16550_new)(struct u16550 *uart, const struct u16550_io *io)
@@ -7958,6 +8177,7 @@ int u16550_set_io(struct u16550 *uart, const struct u16550_io *io)
     return uart_leave(uart, status);
 }
 
+#ifndef U16550_OMIT_LOOPBACK
 int u16550_test_loopback(struct u16550 *uart, struct u16550_loopback_failure *failure)
 {
     struct uart_loopback_error error;
@@ -7970,6 +8190,7 @@ int u16550_test_loopback(struct u16550 *uart, struct u16550_loopback_failure *fa
         uart_encode_failure(&error, failure);
     return uart_leave(uart, status);
 }
+#endif
 
 int u16550_check_configured(struct u16550 *uart, uint8_t outputs, struct u16550_difference *difference)
 {
@@ -8038,6 +8259,7 @@ int u16550_default_config(struct u16550_config *config)
     return U16550_OK;
 }
 
+#ifndef U16550_OMIT_TIMES
 int u16550_nearest(const struct u16550_config *config, uint32_t per_mille, struct u16550_config *nearest)
 {
     struct uart_config_or_nearest_divisor_error found;
@@ -8053,6 +8275,7 @@ int u16550_nearest(const struct u16550_config *config, uint32_t per_mille, struc
         uart_encode_config(&found.value, nearest);
     return status;
 }
+#endif
 
 int u16550_dump_divisor(const struct u16550_dump *dump, uint16_t *divisor)
 {
@@ -8086,6 +8309,7 @@ int u16550_dump_baud_rate(const struct u16550_dump *dump, const struct u16550_co
     return U16550_OK;
 }
 
+#ifndef U16550_OMIT_RINGS
 /* --------------------------------------------------------------- rings and lines */
 
 int u16550_ring_new(struct u16550 *uart, uint8_t *memory, size_t size, size_t tx_capacity, size_t rx_capacity)
@@ -8180,6 +8404,7 @@ int u16550_line_handle(struct u16550_line_port *ports, size_t count, size_t limi
         *served = uart_handle_line(&line, limit, rounds);
     return status;
 }
+#endif
 
 /* Returns whether a text is UTF-8: no overlong form, no surrogate, nothing above U+10FFFF. */
 static bool uart_is_utf8(const uint8_t *text, size_t len)
@@ -8306,9 +8531,11 @@ int u16550_write_raw_text(struct u16550 *uart, const char *text, size_t len, siz
         UART_STORE(bits, store);                                            \
         U16550_BARRIER();                                                   \
     }
+#if !defined(U16550_OMIT_DESIGN_WARE) || !defined(U16550_OMIT_MEMORY)
 UART_WORD(8, "ldrb", "strb")
 UART_WORD(16, "ldrh", "strh")
 UART_WORD(32, "ldr", "str")
+#endif
 
 /*
  * The functions of a driver for such registers. The eight bits of a register are in its lowest byte: in a register of `bits` bits whose
@@ -8330,6 +8557,7 @@ UART_WORD(32, "ldr", "str")
         struct u16550_io io = { NULL, uart_read_##name, uart_write_##name };                  \
         return io;                                                                            \
     }
+#if !defined(U16550_OMIT_DESIGN_WARE) || !defined(U16550_OMIT_MEMORY)
 UART_REGISTERS(bytes, 8, 0)
 UART_REGISTERS(half_words, 16, 0)
 UART_REGISTERS(swapped_half_words, 16, 8)
@@ -8371,11 +8599,13 @@ static int uart_check_memory_layout(uintptr_t base, const struct u16550_layout *
         return status;
     if (layout->stride < bytes)
         return U16550_STRIDE_TOO_SMALL;
-    if (base % bytes != 0)
+    if ((base & (bytes - 1U)) != 0)
         return U16550_MISALIGNED_BASE;
-    return uart_if(base > UINTPTR_MAX - (uintptr_t)last * layout->stride, U16550_BAD_BASE);
+    return uart_if(base > UINTPTR_MAX - uart_distance(last, layout->stride), U16550_BAD_BASE);
 }
+#endif
 
+#ifndef U16550_OMIT_MEMORY
 int (u16550_new_mmio_wide)(struct u16550 *uart, uintptr_t base, const struct u16550_layout *layout)
 {
     struct u16550_io io;
@@ -8388,7 +8618,9 @@ int (u16550_new_mmio_wide)(struct u16550 *uart, uintptr_t base, const struct u16
     uart_begin(uart);
     return uart_put(uart, &io, base, layout->stride, NULL);
 }
+#endif
 
+#ifndef U16550_OMIT_DESIGN_WARE
 
 /* --------------------------------------------------------------- UARTs of DesignWare */
 
@@ -8460,7 +8692,9 @@ int u16550_design_ware_fault(struct u16550 *uart, struct u16550_design_ware *chi
     fault = uart_design_ware_fault(&chip->chip);
     return uart_leave(uart, fault.is_some ? uart_encode_design_ware_fault(fault.value) : U16550_OK);
 }
+#endif
 
+#ifndef U16550_OMIT_RINGS
 /* --------------------------------------------------------------- notes of the errors of received bytes */
 
 /* The functions by which a driver reaches its device through the notes in its context. */
@@ -8542,12 +8776,14 @@ int u16550_ring_take_with_errors(struct u16550 *uart, struct u16550_received *re
     *count = (size_t)(copied.is_error ? copied.error : copied.value);
     return status;
 }
+#endif
 
 /* --------------------------------------------------------------- a driver at a bus of two wires */
 
 /* Marks memory with a bus in it. */
 #define UART_BUS_MARK UINT32_C(0x16550b05)
 
+#ifndef U16550_OMIT_BUS
 /* Begins a call over a bus, as uart_enter does over a driver. One copy is enough: the time at a bus is that of the line. The name of the
  * attribute has underscores, since kernels and U-Boot have a macro with the other name. */
 #if defined(__GNUC__)
@@ -8578,6 +8814,7 @@ static int uart_leave_bus(struct u16550_bus *bus, int status)
     bus->is_busy = 0;
     return status;
 }
+#endif
 
 static int uart_decode_direction(const struct u16550_direction *from, struct u16550_core_direction *to)
 {
@@ -8598,6 +8835,7 @@ int u16550_direction_receiving(const struct u16550_direction *direction, uint8_t
     return status;
 }
 
+#ifndef U16550_OMIT_BUS
 int u16550_bus_new(struct u16550_bus *bus, struct u16550 *uart, const struct u16550_direction *direction)
 {
     struct uart_half_duplex_or_pair_of_driver_busy_error made;
@@ -8785,6 +9023,7 @@ int u16550_bus_receive_with_errors(struct u16550_bus *bus, struct u16550_receive
     *count = found;
     return U16550_OK;
 }
+#endif
 
 int u16550_get_config(struct u16550 *uart, struct u16550_config *config)
 {
@@ -8881,6 +9120,7 @@ int u16550_set_fifo_size(struct u16550 *uart, uint16_t fifo_size)
     return uart_leave(uart, U16550_OK);
 }
 
+#ifndef U16550_OMIT_TIMES
 int u16550_character_clocks(const struct u16550_config *config, uint64_t *clocks)
 {
     struct u16550_core_config decoded;
@@ -9058,6 +9298,7 @@ int u16550_clocks_covering(const struct u16550_config *config, uint64_t nanoseco
         *clocks = found.value;
     return status;
 }
+#endif
 
 int u16550_check_present(struct u16550 *uart, uint8_t *present)
 {
@@ -9790,6 +10031,7 @@ int u16550_config_register_dump(struct u16550 *uart, struct u16550_dump *dump)
     return U16550_OK;
 }
 
+#ifndef U16550_OMIT_RINGS
 int u16550_ring_transmit_len(struct u16550 *uart, size_t *len)
 {
     size_t found;
@@ -10141,7 +10383,9 @@ int u16550_ring_config_register_dump(struct u16550 *uart, struct u16550_dump *du
     *dump = found;
     return U16550_OK;
 }
+#endif
 
+#ifndef U16550_OMIT_TEXT
 const char *u16550_text(int status)
 {
     switch (status) {
@@ -10281,3 +10525,4 @@ const char *u16550_text(int status)
         return "no known status";
     }
 }
+#endif

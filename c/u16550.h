@@ -6,8 +6,8 @@
  * Made by tools/c/emit from the code that is proved, and from the table of the interface. Do not edit.
  *
  * This is u16550.c and u16550.h alone: C99 that needs stddef.h, stdint.h and stdbool.h, and nothing else. It allocates nothing, has
- * no variables and calls no function but those that it is given. A compiler may call memcpy and memset, and where a processor has not 64
- * bits, functions for arithmetic, which libgcc has. Compile u16550.c as the rest of the program is compiled.
+ * no variables and calls no function but those that it is given. A compiler may call memcpy and memset, and no other function of a
+ * library. Compile u16550.c as the rest of the program is compiled.
  *
  * The device is reached by two functions of the caller, or by the library itself if it is in memory. The driver is in memory of the
  * caller.
@@ -762,10 +762,12 @@ struct u16550_notes {
     struct u16550_core_error_notes notes;
 };
 
+#ifndef U16550_OMIT_TEXT
 /* --------------------------------------------------------------- numbers and the version as texts */
 
 /* Returns a text for what a function returned, for a log. Never null. */
 const char *u16550_text(int status);
+#endif
 
 /* Returns the version of the library, as U16550_VERSION was when it was compiled. Never null. */
 const char *u16550_version(void);
@@ -789,6 +791,7 @@ int u16550_new_port(struct u16550 *uart, const struct u16550_io *io, uint16_t ba
  */
 int u16550_new_mmio(struct u16550 *uart, const struct u16550_io *io, uintptr_t base, uint8_t stride);
 
+#ifndef U16550_OMIT_MEMORY
 /*
  * A driver for registers in memory that the library accesses itself, by functions of its own, which u16550_get_io returns.
  * Each access is one load or store of the width of the layout, in order: with a barrier before and behind it on architectures that need
@@ -796,7 +799,9 @@ int u16550_new_mmio(struct u16550 *uart, const struct u16550_io *io, uintptr_t b
  * U16550_BAD_CODE if the byte order is none, else as u16550_new_mmio, else by U16550_STRIDE_TOO_SMALL or U16550_MISALIGNED_BASE.
  */
 int u16550_new_mmio_wide(struct u16550 *uart, uintptr_t base, const struct u16550_layout *layout);
+#endif
 
+#ifndef U16550_OMIT_DESIGN_WARE
 /*
  * A driver for a UART of Synopsys' DesignWare, as Rockchip, Allwinner, StarFive, Intel and others have it. Such a chip ignores a write of
  * LCR while it is busy, and interrupts for that and for reception timeouts without data. Here each write of LCR waits until the chip is not
@@ -816,6 +821,7 @@ int u16550_new_mmio_design_ware(struct u16550 *uart, struct u16550_design_ware *
  * U16550_NOT_MADE if the driver has another chip.
  */
 int u16550_design_ware_fault(struct u16550 *uart, struct u16550_design_ware *chip);
+#endif
 
 /* A driver in this state, whose functions get offsets. */
 int u16550_from_state(struct u16550 *uart, const struct u16550_io *io, const struct u16550_state *state);
@@ -831,6 +837,7 @@ int u16550_end(struct u16550 *uart);
 /* Writes the default: no interrupts, 1843200 Hz, 9600 baud, FIFO with trigger level 14, 8 data bits, 1 stop bit, no parity. */
 int u16550_default_config(struct u16550_config *config);
 
+#ifndef U16550_OMIT_TIMES
 /*
  * Writes the configuration with the frequency at which the nearest divisor gives its baud rate exactly, if that differs from
  * its frequency by at most so many thousandths. u16550_init and u16550_set_frame accept it, and write the nearest divisor. The
@@ -844,6 +851,7 @@ int u16550_default_config(struct u16550_config *config);
  * then is.
  */
 int u16550_nearest(const struct u16550_config *config, uint32_t per_mille, struct u16550_config *nearest);
+#endif
 
 int u16550_get_io(struct u16550 *uart, struct u16550_io *io);
 int u16550_set_io(struct u16550 *uart, const struct u16550_io *io);
@@ -865,6 +873,7 @@ int u16550_fifo_size(struct u16550 *uart, uint16_t *fifo_size);
 /* Proved: no access, and this change to the fields. */
 int u16550_set_fifo_size(struct u16550 *uart, uint16_t fifo_size);
 
+#ifndef U16550_OMIT_TIMES
 /* --------------------------------------------------------------- how long things take
  *
  * These take a configuration and no driver, and make no access. Times are in clocks of the chip's input, of which a second has frequency: so
@@ -942,6 +951,7 @@ int u16550_nanoseconds_covering(const struct u16550_config *config, uint64_t clo
 int u16550_clocks_within(const struct u16550_config *config, uint64_t nanoseconds, uint64_t *clocks);
 /* Proved: the same rounded up. */
 int u16550_clocks_covering(const struct u16550_config *config, uint64_t nanoseconds, uint64_t *clocks);
+#endif
 
 /* --------------------------------------------------------------- setting up */
 
@@ -971,6 +981,7 @@ int u16550_init(struct u16550 *uart, const struct u16550_config *config);
  */
 int u16550_init_with(struct u16550 *uart, const struct u16550_config *config, const struct u16550_setup *setup);
 
+#ifndef U16550_OMIT_LOOPBACK
 /*
  * Tests the chip in loopback. Returns an enum u16550_loopback_error if it fails; *failure then has what came back. failure
  * may be null.
@@ -981,6 +992,7 @@ int u16550_init_with(struct u16550 *uart, const struct u16550_config *config, co
  * are exchanged up to the first error, and MCR and IER are restored.
  */
 int u16550_test_loopback(struct u16550 *uart, struct u16550_loopback_failure *failure);
+#endif
 
 /*
  * Finds how many characters the FIFOs hold as they are set up now, for u16550_set_fifo_size, which it does not call: 16, 32, 64,
@@ -1350,6 +1362,7 @@ int u16550_dump_baud_rate(const struct u16550_dump *dump, const struct u16550_co
  */
 int u16550_direction_receiving(const struct u16550_direction *direction, uint8_t outputs, uint8_t *receiving);
 
+#ifndef U16550_OMIT_BUS
 /*
  * Makes a bus of a driver that is set up: makes the accesses of u16550_bus_try_finish, and there is no driver in the memory of the driver any
  * more. Returns U16550_BUS_BUSY if the transmitter is not empty; the driver then stays. Refused by U16550_HAS_RINGS if it has rings. If a call
@@ -1393,6 +1406,7 @@ int u16550_bus_send_bytes_exact(struct u16550_bus *bus, const uint8_t *buffer, s
 int u16550_bus_receive_bytes(struct u16550_bus *bus, uint8_t *buffer, size_t len, size_t *count);
 int u16550_bus_receive_with_errors(struct u16550_bus *bus, struct u16550_received *received, size_t len, size_t *count);
 int u16550_bus_lsr(struct u16550_bus *bus, uint8_t *value);
+#endif
 
 /* --------------------------------------------------------------- rings, for use with interrupts
  *
@@ -1409,6 +1423,7 @@ int u16550_bus_lsr(struct u16550_bus *bus, uint8_t *value);
 #define U16550_MAX_CAPACITY 4096
 #define U16550_MAX_INTERRUPTS 8
 
+#ifndef U16550_OMIT_RINGS
 /*
  * Gives a driver rings for so many bytes to be sent and so many received bytes, in this memory of size bytes. The memory is
  * the rings' until u16550_ring_end or u16550_end, or until another driver is made in the place of this one. Refused by an
@@ -1646,6 +1661,7 @@ int u16550_ring_take_modem(struct u16550 *uart, uint8_t *msr);
  * sending resumes.
  */
 int u16550_ring_config_register_dump(struct u16550 *uart, struct u16550_dump *dump);
+#endif
 
 /* --------------------------------------------------------------- the layout of structs
  *

@@ -399,7 +399,10 @@ class Beside:
 
     def of_c(self, source):
         """The text of C: the functions without what is by hand, and what calls each."""
-        return HEAD_OF_C + self.before + source.partition(self.by_hand)[0] + self.called_by_it + "\n".join(self.texts)
+        made = source.partition(self.by_hand)[0]
+        # A part that a macro leaves out may go on in what is by hand.
+        ends = "#endif\n" * (len(re.findall("^#if", made, re.M)) - len(re.findall("^#endif", made, re.M)))
+        return HEAD_OF_C + self.before + made + ends + self.called_by_it + "\n".join(self.texts)
 
     def of_rust(self, source):
         """The texts of the files of Rust. Numbers that the C has are tried in each place of a number."""
@@ -425,8 +428,8 @@ class Beside:
         """Builds the program over this text of the C. Returns its path, or None and what the compiler says."""
         text, program = folder / f"{name}.c", folder / name
         text.write_text(self.of_c(source), encoding="ascii")
-        told = compiled(["gcc", "-std=gnu99", "-O1", "-w", "-fexceptions", "-I", HEADER, text, folder / "libbeside.a", "-lpthread", "-ldl",
-                         "-lm", "-o", program])
+        words = ["gcc", "-std=gnu99", "-O1", "-w", "-fexceptions", "-DUART_BY_SHIFTS", "-I", HEADER]
+        told = compiled([*words, text, folder / "libbeside.a", "-lpthread", "-ldl", "-lm", "-o", program])
         return (None, told) if told else (program, "")
 
 

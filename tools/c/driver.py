@@ -10,6 +10,7 @@ import each
 import header
 import interface
 import names
+import parts
 import table
 from kit import program_of
 from library import Library, Unknown
@@ -60,10 +61,6 @@ def version():
     return tomllib.loads(manifest)["package"]["version"]
 
 
-# What the original crate has otherwise is for programs in Rust. Its types have the names of the driver's.
-OF_THE_ORIGINAL = "uart_spec::original::"
-
-
 def of_table():
     """The files that need no proof, by their paths: the header and the numbers of the library that is made of Rust, and each call for its
     tests."""
@@ -77,7 +74,7 @@ def wanted(library, text):
     """The functions of our crates that a text of C calls, by their C names."""
     called = set(re.findall(r"\b(uart_\w+)\(", text))
     for name in library.forest.program.functions:
-        information = library.source.find(name) if name.split("::")[0] in OWN and not name.startswith(OF_THE_ORIGINAL) else None
+        information = library.source.find(name) if name.split("::")[0] in OWN else None
         if information and (information.is_public or OF_TRAITS.search(name)) and library.name_of((name, (), ())) in called:
             yield name
 
@@ -103,9 +100,10 @@ def made(folder):
     proved = {one.name.removeprefix("uart_"): proved_lines(one.proved) for one in library.order if one.proved}
     header_text = header.of_c(text_of("header_c.h"), version(), "\n".join(in_header), proved)
     enums = interface.Enums("\n".join(in_header + own))
-    source = [TOP + constants(library, header_text), "\n".join(own), text_of("layer_top.c"), library.text(), guards, interface.codes(enums),
-              interface.statuses(enums), by_hand, rows, interface.texts()]
-    return {"u16550.h": header_text, "u16550.c": "\n".join(source)}, library
+    top = [TOP + constants(library, header_text), "\n".join(own), text_of("layer_arithmetic.c"), text_of("layer_top.c")]
+    source = [*top, library.text(), guards, interface.codes(enums), interface.statuses(enums), by_hand, rows, interface.texts()]
+    of_source, of_header = parts.divided("\n".join(source), header_text)
+    return {"u16550.h": of_header, "u16550.c": of_source}, library
 
 
 def constants(library, header_text):

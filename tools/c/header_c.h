@@ -4,8 +4,8 @@
  * Made by tools/c/emit from the code that is proved, and from the table of the interface. Do not edit.
  *
  * This is u16550.c and u16550.h alone: C99 that needs stddef.h, stdint.h and stdbool.h, and nothing else. It allocates nothing, has
- * no variables and calls no function but those that it is given. A compiler may call memcpy and memset, and where a processor has not 64
- * bits, functions for arithmetic, which libgcc has. Compile u16550.c as the rest of the program is compiled.
+ * no variables and calls no function but those that it is given. A compiler may call memcpy and memset, and no other function of a
+ * library. Compile u16550.c as the rest of the program is compiled.
  *
  * The device is reached by two functions of the caller, or by the library itself if it is in memory. The driver is in memory of the
  * caller.

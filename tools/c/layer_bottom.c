@@ -32,26 +32,6 @@ static int uart_decode_config(const struct u16550_config *from, struct u16550_co
     return status;
 }
 
-/*
- * Whether the divisor of a configuration, if there is one, is what was to be computed. That is proved, but where a processor has no division
- * of 64-bit numbers a function divides that the program may bring along, and one that is wrong is not to put a divisor into the chip, as 0.
- */
-static bool uart_is_divided(const struct u16550_core_config *config)
-{
-    uint32_t baud_rate = uart_baud_rate_to_integer(config->baud_rate);
-    uint64_t ticks = 16 * (uint64_t)baud_rate;
-    struct uart_u16_or_invalid_divisor_error found;
-    /* A processor of 64 bits has an instruction for it, which no program replaces. */
-    if (sizeof(void *) > 4)
-        return true;
-    found = uart_calc_divisor(config->frequency, baud_rate, config->prescaler_division_factor);
-    if (found.error.kind != UART_INVALID_DIVISOR_ERROR_NONE)
-        return true;
-    if (config->prescaler_division_factor.is_some)
-        ticks *= config->prescaler_division_factor.value + 1;
-    return ticks * found.value == config->frequency;
-}
-
 /* The same, if a divisor can be computed. */
 static int uart_decode_computable(const struct u16550_config *from, struct u16550_core_config *to)
 {
@@ -60,7 +40,7 @@ static int uart_decode_computable(const struct u16550_config *from, struct u1655
         status = uart_decode_config(from, to);
     if (status != U16550_OK)
         return status;
-    return uart_unless(uart_config_is_computable(to) && uart_is_divided(to), U16550_NOT_COMPUTABLE);
+    return uart_unless(uart_config_is_computable(to), U16550_NOT_COMPUTABLE);
 }
 
 static void uart_encode_config(const struct u16550_core_config *from, struct u16550_config *to)
@@ -246,7 +226,7 @@ static int uart_check_place(uintptr_t base, uint8_t stride)
         return U16550_BAD_BASE;
     if (stride == 0 || (stride & (stride - 1)) != 0)
         return U16550_BAD_STRIDE;
-    return uart_if(base > UINTPTR_MAX - (uintptr_t)UART_SPR * stride, U16550_BAD_BASE);
+    return uart_if(base > UINTPTR_MAX - uart_distance(UART_SPR, stride), U16550_BAD_BASE);
 }
 
 int (u16550_new)(struct u16550 *uart, const struct u16550_io *io)

@@ -60,7 +60,7 @@ static inline int uart_unless(bool holds, int status)
 
 static inline int uart_aligned(const void *at, size_t alignment)
 {
-    return uart_unless((uintptr_t)at % alignment == 0, U16550_MISALIGNED);
+    return uart_unless(((uintptr_t)at & (alignment - 1)) == 0, U16550_MISALIGNED);
 }
 
 /* Refuses a pointer that is null or not aligned. */
@@ -69,8 +69,8 @@ static int uart_usable(const void *at, size_t alignment)
     return at == NULL ? U16550_NULL_POINTER : uart_aligned(at, alignment);
 }
 
-/* Refuses an array that cannot be: of items of this size. One of none may be anywhere. */
-static int uart_array(const void *at, size_t len, size_t item, size_t alignment)
+/* Refuses an array that cannot be: of items of this size, of which so many are half of all memory. One of none may be anywhere. */
+static int uart_items(const void *at, size_t len, size_t item, size_t half, size_t alignment)
 {
     uintptr_t start = (uintptr_t)at;
     int status;
@@ -79,10 +79,13 @@ static int uart_array(const void *at, size_t len, size_t item, size_t alignment)
     status = uart_usable(at, alignment);
     if (status != U16550_OK)
         return status;
-    if (len > (SIZE_MAX / 2) / item || start > UINTPTR_MAX - len * item)
+    if (len > half || start > UINTPTR_MAX - uart_times(len, (uint8_t)item))
         return U16550_BAD_LENGTH;
     return U16550_OK;
 }
+
+/* The same. A compiler divides. */
+#define uart_array(at, len, item, alignment) uart_items(at, len, item, (SIZE_MAX / 2) / (item), alignment)
 
 /* Begins a call over a driver, unless there is none or a call over it is not done. */
 static int uart_enter(struct u16550 *uart)

@@ -121,9 +121,9 @@ static int uart_check_memory_layout(uintptr_t base, const struct u16550_layout *
         return status;
     if (layout->stride < bytes)
         return U16550_STRIDE_TOO_SMALL;
-    if (base % bytes != 0)
+    if ((base & (bytes - 1U)) != 0)
         return U16550_MISALIGNED_BASE;
-    return uart_if(base > UINTPTR_MAX - (uintptr_t)last * layout->stride, U16550_BAD_BASE);
+    return uart_if(base > UINTPTR_MAX - uart_distance(last, layout->stride), U16550_BAD_BASE);
 }
 
 int (u16550_new_mmio_wide)(struct u16550 *uart, uintptr_t base, const struct u16550_layout *layout)

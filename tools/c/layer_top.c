@@ -1,15 +1,18 @@
 /* --------------------------------------------------------------- the device */
 
+static inline uintptr_t uart_address(const struct u16550_device *device, uint8_t offset)
+{
+    return (uintptr_t)(device->base + uart_distance(offset, device->stride));
+}
+
 static inline uint8_t uart_device_read(struct u16550_device *device, uint8_t offset)
 {
-    uintptr_t address = (uintptr_t)(device->base + (uintptr_t)((uintptr_t)offset * device->stride));
-    return device->io.read(device->io.context, address);
+    return device->io.read(device->io.context, uart_address(device, offset));
 }
 
 static inline void uart_device_write(struct u16550_device *device, uint8_t offset, uint8_t value)
 {
-    uintptr_t address = (uintptr_t)(device->base + (uintptr_t)((uintptr_t)offset * device->stride));
-    device->io.write(device->io.context, address, value);
+    device->io.write(device->io.context, uart_address(device, offset), value);
 }
 
 /* The register USR of a DesignWare UART lies beyond the eight. */

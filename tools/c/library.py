@@ -57,6 +57,10 @@ static inline bool uart_same_bytes(const uint8_t *one, const uint8_t *other, siz
 }
 """,
 }
+# The functions for arithmetic that not every processor has an instruction for, by the operator and how many bits a number has. They are by hand
+# (layer_arithmetic.c).
+ARITHMETIC = {("/", 32): "uart_quotient_32", ("%", 32): "uart_rest_32", ("/", 64): "uart_quotient_64", ("%", 64): "uart_rest_64",
+              ("*", 64): "uart_product_64"}
 # What moves items towards the front of their array. Of one loop gcc makes a call of memmove, around which a function has to keep its
 # registers: a tick takes 38 instructions then, and not 26. So many at once are as many as such an array of the chip has: gcc moves them by a
 # few registers, and calls nothing.
@@ -133,6 +137,21 @@ def is_known(value):
     if isinstance(value, c.CallOf):
         return value.is_pure and value.fields is not None and all(map(is_known, value.arguments))
     return is_constant(value)
+
+
+def is_power_of_two(one):
+    """Whether an operand is a number by which a compiler multiplies and divides with shifts."""
+    return isinstance(one, c.Literal) and one.value & (one.value - 1) == 0 and one.value > 0
+
+
+def with_arithmetic(one):
+    """A product, a quotient or a rest by the function for it."""
+    if not isinstance(one, c.Binary) or not isinstance(one.of, c.Number) or one.of.text() == "size_t":
+        return one
+    name = ARITHMETIC.get((one.operator, one.of.bits))
+    if name is None or is_power_of_two(one.right) or one.operator == "*" and is_power_of_two(one.left):
+        return one
+    return c.CallOf(name, [one.left, one.right], one.of, True, (one.of, one.of))
 
 
 def without_destructors(key):
@@ -248,6 +267,7 @@ class Library:
                 self.note_unread(written)
                 passes.narrow_counters(written.statements)
             passes.on_expressions(written.statements, self.with_register)
+            passes.on_expressions(written.statements, with_arithmetic)
             name_variables(body, written)
             if self.registers:
                 self.name_registers(written)
@@ -814,7 +834,7 @@ def hints_of_calls(statements):
     for one in c.all_statements(statements):
         if isinstance(one, c.Set) and isinstance(one.to, c.Var) and isinstance(one.value, c.CallOf) and isinstance(one.to.of, c.Number):
             name = re.sub(r"^uart_(ring_)?", "", one.value.name)
-            name = re.sub(r"^(read|try|get|calc|take)_", "", name)
+            name = re.sub(r"^(read|try|get|calc|take)_|_(32|64)$", "", name)
             out.setdefault(one.to.variable, {"device_read": "value"}.get(name, name))
     return out
 

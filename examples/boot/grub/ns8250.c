@@ -80,31 +80,6 @@ write_register (void *context __attribute__ ((unused)), uintptr_t address, uint8
   grub_outb (value, address);
 }
 
-/* ------------------------------------------------------------------ what a C compiler calls on 32 bits */
-
-#ifdef __i386__
-/*
- * The compiler calls these with arguments in registers, as all of GRUB does. But it takes those on the stack from there itself, as -mrtd says
- * of no function that it calls on its own.
- */
-#define OF_COMPILER __attribute__ ((cdecl, regparm (3)))
-
-grub_uint64_t OF_COMPILER __udivdi3 (grub_uint64_t number, grub_uint64_t divisor);
-grub_uint64_t OF_COMPILER __udivmoddi4 (grub_uint64_t number, grub_uint64_t divisor, grub_uint64_t *rest);
-
-grub_uint64_t OF_COMPILER
-__udivdi3 (grub_uint64_t number, grub_uint64_t divisor)
-{
-  return grub_divmod64 (number, divisor, 0);
-}
-
-grub_uint64_t OF_COMPILER
-__udivmoddi4 (grub_uint64_t number, grub_uint64_t divisor, grub_uint64_t *rest)
-{
-  return grub_divmod64 (number, divisor, rest);
-}
-#endif
-
 /* ------------------------------------------------------------------ the operations of a port */
 
 /* Writes what the library takes for a configuration of GRUB's. Returns U16550_OK, or why the chip cannot have it. */
