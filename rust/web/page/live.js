@@ -20,6 +20,8 @@ class LiveTab {
     element("set-up").onclick = () => this.act("live_start", [], "the driver sets the chip up");
     element("handle").onclick = () => this.act("live_handle", [], "the handler is called");
     element("anew").onclick = () => this.anew();
+    element("send-back").onclick = () => this.act("live_send_back", [], "what came is sent back");
+    for (const input of document.querySelectorAll(".ring")) input.onchange = () => this.setRings("the rings are set otherwise");
     for (const button of document.querySelectorAll("[data-ticks]")) button.onclick = () => this.act("live_ticks", [Number(button.dataset.ticks)]);
     for (const input of document.querySelectorAll(".input")) {
       input.onchange = () => this.act("live_lines", [checkedBits(".input")], "the modem inputs change");
@@ -30,12 +32,19 @@ class LiveTab {
     setInterval(() => this.passes(), PERIOD);
   }
 
-  anew() {
+  async anew() {
     this.sent = [];
     this.before = undefined;
     element("terminal").textContent = "";
     element("history").replaceChildren();
-    return this.act("live_new", [Number(element("model").value), CHARACTER], "a new chip");
+    await this.act("live_new", [Number(element("model").value), CHARACTER], "a new chip");
+    return this.setRings();
+  }
+
+  // Their room counts when the driver sets the chip up again, and the rest at once.
+  setRings(said) {
+    const numbers = ["transmit", "receive", "limit", "held-by", "hold", "release"].map((id) => Math.max(0, Number(element(`ring-${id}`).value) || 0));
+    return this.act("live_rings", [...numbers, Number(element("ring-echoes").checked)], said);
   }
 
   // Does something with the chip, and shows what came of it.
@@ -53,6 +62,7 @@ class LiveTab {
     if (told.sent.length) element("terminal").scrollTop = element("terminal").scrollHeight;
     this.sent.push(...told.sent);
     this.state = told.state;
+    element("ring-state").textContent = ringsText(told.rings);
     this.isDlabSet = told.state.lcr > 127;
     element("live-view").replaceChildren(...showChip(told.state, this.before, { ticks: CHARACTER, sent: this.sent }));
     this.before = told.state;
@@ -110,4 +120,11 @@ class LiveTab {
 
 function checkedBits(boxes) {
   return [...document.querySelectorAll(boxes)].reduce((bits, box) => bits | (box.checked ? Number(box.value) : 0), 0);
+}
+
+// How full the rings of the driver are.
+function ringsText(rings) {
+  if (!rings) return "no rings: the driver has not set the chip up";
+  const [sending, received] = [rings.transmit, rings.receive].map(([count, room]) => `${count} of ${room}`);
+  return `to send ${sending}, received ${received}${rings.paused ? ": full, the receive interrupt is off" : ""}`;
 }

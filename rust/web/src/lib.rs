@@ -17,8 +17,9 @@ use geesetrunk::known::Known;
 use geesetrunk::link::{Link, LinkOutput, linked_in_turns};
 use geesetrunk::options::options_in;
 use geesetrunk::page::{entries, explanations_of_all, explored, findings, played};
-use live::Live;
+use live::{HeldBy, Live, RingSettings};
 use std::cell::RefCell;
+use uart_ring::ReceiveMarks;
 
 // The exit status of a program that did what was requested.
 const DONE: u32 = 0;
@@ -208,4 +209,40 @@ pub extern "C" fn live_start() {
 #[cfg_attr(target_family = "wasm", unsafe(no_mangle))]
 pub extern "C" fn live_handle() {
     with_live(Live::handle);
+}
+
+/// Sets what the driver of the live chip does with its rings: for how many bytes they have room, once it sets the chip up again; how many
+/// interrupts a call of its handler serves; by what the other end is held back, 1 RTS and 2 XOFF, and at which marks; and whether it sends
+/// back what came.
+#[cfg_attr(target_family = "wasm", unsafe(no_mangle))]
+pub extern "C" fn live_rings(
+    transmit: usize,
+    receive: usize,
+    limit: usize,
+    held_by: u32,
+    hold: usize,
+    release: usize,
+    echoes: u32,
+) {
+    let held_by = match held_by {
+        1 => HeldBy::Rts,
+        2 => HeldBy::Xoff,
+        _ => HeldBy::Nothing,
+    };
+    with_live(|live| {
+        live.set_rings(RingSettings {
+            transmit,
+            receive,
+            limit,
+            held_by,
+            marks: ReceiveMarks { hold, release },
+            echoes: echoes != 0,
+        });
+    });
+}
+
+/// Lets the driver send back what is in its receive ring.
+#[cfg_attr(target_family = "wasm", unsafe(no_mangle))]
+pub extern "C" fn live_send_back() {
+    with_live(Live::send_back);
 }

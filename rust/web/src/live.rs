@@ -6,7 +6,7 @@ use std::fmt::Write;
 use std::rc::Rc;
 use uart_16550::Uart16550;
 use uart_language::fields::chip_in;
-use uart_ring::Uart16550Ring;
+use uart_ring::{MAX_CAPACITY, ReceiveMarks, Uart16550Ring};
 use uart_spec::backend::Backend;
 use uart_spec::registers::{IER, LSR, MSR};
 use uart_spec::{Config, FifoSize};
@@ -31,9 +31,61 @@ const SWITCHED: usize = CHIPS.len();
 /// The most bytes that are sent between two looks at the wire.
 const WIRE: usize = 4096;
 
-/// The room of each ring, and how many characters a call of the handler takes at most.
-const RING: usize = 256;
-const LIMIT: usize = 8;
+/// How the other end is held back.
+#[derive(Clone, Copy, Debug, PartialEq, Eq)]
+pub enum HeldBy {
+    /// It is not: what has no room is dropped.
+    Nothing,
+    /// By the modem line RTS.
+    Rts,
+    /// By the characters XOFF and XON.
+    Xoff,
+}
+
+/// What the driver does with its rings.
+#[derive(Clone, Copy, Debug)]
+pub struct RingSettings {
+    /// For how many bytes the transmit ring has room, once the driver sets the chip up.
+    pub transmit: usize,
+    /// For how many the receive ring has room.
+    pub receive: usize,
+    /// How many interrupts a call of the handler serves at most.
+    pub limit: usize,
+    /// How the other end is held back, at these marks.
+    pub held_by: HeldBy,
+    /// See `held_by`.
+    pub marks: ReceiveMarks,
+    /// Whether each call of the handler is followed by one that sends back what came.
+    pub echoes: bool,
+}
+
+impl Default for RingSettings {
+    fn default() -> Self {
+        RingSettings {
+            transmit: 256,
+            receive: 256,
+            limit: 8,
+            held_by: HeldBy::Nothing,
+            marks: ReceiveMarks {
+                hold: 32,
+                release: 64,
+            },
+            echoes: true,
+        }
+    }
+}
+
+impl RingSettings {
+    // A ring has room for some bytes, and for no more than a script may say.
+    fn bounded(self) -> Self {
+        RingSettings {
+            transmit: self.transmit.clamp(1, MAX_CAPACITY),
+            receive: self.receive.clamp(1, MAX_CAPACITY),
+            limit: self.limit.clamp(1, MAX_CAPACITY),
+            ..self
+        }
+    }
+}
 
 /// The last offset of a register. What is above it is taken for one below it, as on a bus that decodes three lines.
 const LAST_OFFSET: u8 = 7;
@@ -83,7 +135,11 @@ impl Backend for Shared {
 
 // Sets the chip up, whose FIFOs have this size; without one the chip is asked for its 64. Returns nothing if that fails: the page sees the
 // accesses.
-fn driver_of(shared: Shared, size: Option<FifoSize>) -> Option<Uart16550Ring<Shared>> {
+fn driver_of(
+    shared: Shared,
+    size: Option<FifoSize>,
+    rings: &RingSettings,
+) -> Option<Uart16550Ring<Shared>> {
     let mut uart = Uart16550::new_with_backend(shared);
     let interrupts = IER::DATA_READY
         .union(IER::THR_EMPTY)
@@ -100,7 +156,7 @@ fn driver_of(shared: Shared, size: Option<FifoSize>) -> Option<Uart16550Ring<Sha
     };
     uart.set_fifo_size(size);
     let heap = geesetrunk_kit_of_rings::alloc::Global::heap();
-    Uart16550Ring::new(heap, uart, RING, RING).ok()
+    Uart16550Ring::new(heap, uart, rings.transmit, rings.receive).ok()
 }
 
 /// A live chip, what has left it since it was told last, and its driver.
@@ -108,7 +164,9 @@ pub struct Live {
     shared: Shared,
     // The size of its FIFOs, if it has no switch.
     size: Option<FifoSize>,
-    driver: Option<Uart16550Ring<Shared>>,
+    // What the page has set, and the rings with the rooms that they were made with.
+    rings: RingSettings,
+    driver: Option<(Uart16550Ring<Shared>, RingSettings)>,
     sent: Vec<u8>,
 }
 
@@ -130,6 +188,7 @@ impl Live {
                 accesses: Rc::default(),
             },
             size,
+            rings: RingSettings::default(),
             driver: None,
             sent: Vec::new(),
         })
@@ -174,25 +233,72 @@ impl Live {
         let sent: Vec<_> = self.sent.drain(..).map(|byte| byte.to_string()).collect();
         let (sent, accesses) = (sent.join(","), self.shared.accesses());
         let state = self.shared.chip.borrow_mut().state();
-        format!("{{\"sent\":[{sent}],\"accesses\":{accesses},\"state\":{state}}}")
+        let rings = match &self.driver {
+            None => "null".into(),
+            Some((ring, made)) => format!(
+                "{{\"transmit\":[{},{}],\"receive\":[{},{}],\"paused\":{}}}",
+                ring.transmit_len(),
+                made.transmit,
+                ring.receive_len(),
+                made.receive,
+                ring.is_paused()
+            ),
+        };
+        format!("{{\"sent\":[{sent}],\"accesses\":{accesses},\"rings\":{rings},\"state\":{state}}}")
+    }
+
+    /// Sets what the driver does with its rings. Their rooms count once it sets the chip up again.
+    pub fn set_rings(&mut self, rings: RingSettings) {
+        self.rings = rings.bounded();
+        self.adjust();
     }
 
     /// Lets the driver set the chip up.
     pub fn start(&mut self) {
-        self.driver = driver_of(self.shared.clone(), self.size);
+        let driver = driver_of(self.shared.clone(), self.size, &self.rings);
+        self.driver = driver.map(|ring| (ring, self.rings));
         self.take();
     }
 
-    /// Lets the driver handle an interrupt, and queue what it took.
+    /// Lets the driver handle an interrupt, and send back what it took, if it echoes.
     pub fn handle(&mut self) {
-        if let Some(driver) = &mut self.driver {
-            driver.handle(LIMIT);
-            let mut slots = [0; RING];
-            let count = driver.take(&mut slots);
-            // The ring has room: what is in it came in by this echo alone.
-            driver.queue(&slots[..count]);
+        if let Some((ring, _)) = &mut self.driver {
+            ring.handle(self.rings.limit);
         }
+        if self.rings.echoes {
+            self.echo();
+        }
+        self.adjust();
         self.take();
+    }
+
+    /// Sends back what is in the receive ring, as far as the transmit ring has room.
+    pub fn send_back(&mut self) {
+        self.echo();
+        self.adjust();
+        self.take();
+    }
+
+    fn echo(&mut self) {
+        if let Some((ring, _)) = &mut self.driver {
+            let mut slots = vec![0; ring.transmit_room()];
+            let count = ring.take(&mut slots);
+            ring.queue(&slots[..count]);
+        }
+    }
+
+    // Holds the other end back, or lets it go on, as the rings need it.
+    fn adjust(&mut self) {
+        if let Some((ring, _)) = &mut self.driver {
+            let marks = self.rings.marks;
+            match self.rings.held_by {
+                HeldBy::Nothing => {}
+                HeldBy::Rts => ring.adjust_rts(marks),
+                HeldBy::Xoff => {
+                    ring.adjust_xoff(marks);
+                }
+            }
+        }
     }
 }
 
@@ -289,5 +395,83 @@ mod tests {
         assert_eq!(live.read(6), MSR::CTS.bits() | 1);
         live.lines(0);
         assert_eq!(live.read(6), 1);
+    }
+
+    // Lets characters arrive with time between them, as their sender has it, and the handler come.
+    fn receive(live: &mut Live, bytes: &[u8]) {
+        for &byte in bytes {
+            live.arrive(byte, 0);
+            live.ticks(4);
+            live.handle();
+        }
+        live.ticks(40);
+        live.handle();
+    }
+
+    const SMALL: ReceiveMarks = ReceiveMarks {
+        hold: 4,
+        release: 8,
+    };
+
+    #[test]
+    fn rings_have_the_room_that_is_set() {
+        let mut live = Live::new(0, 4).unwrap();
+        assert!(live.told().contains("\"rings\":null"));
+        live.set_rings(RingSettings {
+            receive: 8,
+            transmit: 0,
+            echoes: false,
+            ..RingSettings::default()
+        });
+        live.start();
+        assert!(
+            live.told()
+                .contains("\"rings\":{\"transmit\":[0,1],\"receive\":[0,8],")
+        );
+        receive(&mut live, b"abcdefghij");
+        // The two behind them wait in the chip, whose interrupt is off until there is room.
+        let told = live.told();
+        assert!(told.contains("\"receive\":[8,8],\"paused\":true"), "{told}");
+        assert!(told.contains("\"waiting\":[[105,0],[106,0]]"), "{told}");
+        // The transmit ring has room for one byte, and so one is taken at a time.
+        live.send_back();
+        assert!(live.told().contains("\"receive\":[7,8]"));
+    }
+
+    #[test]
+    fn the_other_end_is_held_back() {
+        let mut live = Live::new(0, 4).unwrap();
+        live.set_rings(RingSettings {
+            receive: 8,
+            held_by: HeldBy::Rts,
+            marks: SMALL,
+            echoes: false,
+            ..RingSettings::default()
+        });
+        live.start();
+        let rts = |live: &mut Live| live.read(4) & 2 != 0;
+        receive(&mut live, b"abcd");
+        assert!(rts(&mut live));
+        receive(&mut live, b"e");
+        assert!(!rts(&mut live));
+        live.send_back();
+        assert!(rts(&mut live));
+    }
+
+    #[test]
+    fn the_other_end_is_told_to_stop() {
+        let mut live = Live::new(0, 4).unwrap();
+        live.set_rings(RingSettings {
+            receive: 8,
+            held_by: HeldBy::Xoff,
+            marks: SMALL,
+            echoes: false,
+            ..RingSettings::default()
+        });
+        live.start();
+        live.told();
+        receive(&mut live, b"abcde");
+        live.ticks(40);
+        assert!(live.told().contains("\"sent\":[19]"));
     }
 }

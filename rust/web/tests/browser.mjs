@@ -6,6 +6,7 @@
 import { mkdtempSync, rmSync } from "node:fs";
 import { tmpdir } from "node:os";
 import { join } from "node:path";
+import { axeSource } from "./axe.mjs";
 import { Chromium } from "./chromium.mjs";
 import { Firefox } from "./firefox.mjs";
 
@@ -20,14 +21,6 @@ function holds(what, found, wanted = true) {
   const isSame = JSON.stringify(found) === JSON.stringify(wanted);
   counts[isSame ? "passed" : "failed"]++;
   console.log(isSame ? `${what}: ok` : `${what}: failed: ${JSON.stringify(found)}, and not ${JSON.stringify(wanted)}`);
-}
-
-// A window that is not active shows no focus, whatever has it, and takes no key for it: so it is in Firefox without a screen. Then what a
-// check needs the focus for is skipped by name.
-async function hasFocus(browser, what) {
-  const has = await browser.value("document.hasFocus()");
-  if (!has) console.log(`skipped ${what}: the window of this browser has no focus`);
-  return has;
 }
 
 async function scripts(browser) {
@@ -241,14 +234,13 @@ async function keyboard(browser) {
   holds("a queue is told in words",
       await browser.value("/^receive: \\d+ character/.test(document.querySelectorAll('#view .cells')[1].getAttribute('aria-label'))"));
   await browser.value("element('source').focus()");
-  if (!(await hasFocus(browser, "that the editor shows its focus"))) return;
   holds("the editor shows that it has the focus", await browser.value("getComputedStyle(document.querySelector('.editor')).outlineStyle"), "solid");
 }
 
 // 390 pixels are the width of a phone.
 async function phone(browser) {
-  await browser.resize(390, 844, true);
-  for (const fragment of ["#example=overrun-fifo&step=38", "#link=hello", "#recording=wrong-driver", "#live"]) {
+  await browser.resize(...PHONE, true);
+  for (const fragment of TABS) {
     await browser.open(fragment);
     holds(`${fragment} is as wide as a phone`, await browser.value("document.documentElement.scrollWidth <= innerWidth && innerWidth <= 390"));
     const outside = "[...document.querySelectorAll('.tab.shown .panel, .tab.shown input, .tab.shown button, .tab.shown select')]"
@@ -279,9 +271,34 @@ async function live(browser) {
   holds("a register is read by hand", await browser.until("/you read LSR → 60/.test(document.querySelector('#history').textContent)"));
   const cells = "document.querySelector('#live-view .cells').children.length";
   await browser.value("element('model').value = '7', element('anew').click()");
-  holds("a 16750 begins with FIFOs of 16", await browser.until(`${cells} === 16 && /a new chip/.test(element('history').firstChild.textContent)`));
+  holds("a 16750 begins with FIFOs of 16", await browser.until(`${cells} === 16 && /a new chip/.test(element('history').firstChild?.textContent)`));
   await browser.value("element('set-up').click()");
   holds("and the driver switches them to 64", await browser.until(`${cells} === 64 && /FIFOs of 64|64/.test(element('live-view').textContent)`));
+}
+
+// The rings of the driver are as large as one says, and hold the other end back.
+async function rings(browser) {
+  await browser.open("#live");
+  await browser.value("element('anew').click()");
+  const set = (id, value) => browser.value(`{
+    const input = element("ring-${id}");
+    input[input.type === "checkbox" ? "checked" : "value"] = ${JSON.stringify(value)};
+    input.dispatchEvent(new Event("change"));
+  }`);
+  for (const [id, value] of [["receive", 8], ["held-by", "1"], ["hold", 4], ["release", 8], ["echoes", false]]) await set(id, value);
+  await browser.value("element('set-up').click()");
+  const state = "element('ring-state').textContent";
+  holds("the rings have the room that is set", await browser.until(`${state} === 'to send 0 of 256, received 0 of 8'`));
+  await browser.value("element('clock').checked = element('serves').checked = true");
+  await browser.value("element('keyboard').focus()");
+  for (const letter of "goose") await browser.key(letter, letter);
+  holds("what is typed waits in the receive ring", await browser.until(`${state} === 'to send 0 of 256, received 5 of 8'`));
+  const rts = "/MCR .*RTS/.test([...document.querySelectorAll('#live-view .register')].map((one) => one.getAttribute('aria-label')).join('; '))";
+  holds("and RTS holds the other end back", await browser.until(`!(${rts})`));
+  await browser.picture("rings");
+  await browser.value("element('send-back').click()");
+  holds("what came is sent back", await browser.until("element('terminal').textContent === 'goose'"));
+  holds("and the other end may go on", await browser.until(`${rts} && ${state} === 'to send 0 of 256, received 0 of 8'`));
 }
 
 // What the program prints has no module, and shows the same.
@@ -367,7 +384,7 @@ const FOUND = `(() => {
   );
   return [
     ...bad("no name", controls.filter((one) => !named(one))),
-    ...bad("no focus shown", controls.filter((one) => document.hasFocus() && !one.disabled && one.tabIndex >= 0 && !isFocused(one))),
+    ...bad("no focus shown", controls.filter((one) => !one.disabled && one.tabIndex >= 0 && !isFocused(one))),
     ...bad("scrolls, and no key gets there", scrolls.filter((one) => one.tabIndex < 0 && !one.querySelector("button, input, a[href], textarea"))),
     ...ids.filter((id, index) => ids.indexOf(id) !== index).map((id) => "twice: " + id),
     ...bad("names nothing", [...document.querySelectorAll("[aria-controls], [aria-labelledby]")].filter(
@@ -468,18 +485,50 @@ const CONTRAST = `(() => {
   return [...found];
 })()`;
 
+// Each tab with something in it, and how large a phone is.
+const TABS = ["#example=overrun-fifo&step=38", "#link=hello", "#recording=wrong-driver", "#live"];
+const PHONE = [390, 844];
+
+// Opens a tab, and waits until what it has to show is there.
+async function openTab(browser, fragment) {
+  await browser.open(fragment);
+  await browser.until("![...document.querySelectorAll('.tab.shown [role=status]')].some((one) => /is judged/.test(one.textContent))");
+  if (fragment === "#link=hello") await browser.until("document.querySelector('#linked-picture svg') !== null");
+}
+
 async function accessible(browser) {
-  await hasFocus(browser, "that each control shows its focus");
-  for (const fragment of ["#example=overrun-fifo&step=38", "#link=hello", "#recording=wrong-driver", "#live"]) {
-    await browser.open(fragment);
-    await browser.until("![...document.querySelectorAll('.tab.shown [role=status]')].some((one) => /is judged/.test(one.textContent))");
-    if (fragment === "#link=hello") await browser.until("document.querySelector('#linked-picture svg') !== null");
+  holds("the window has the focus", await browser.value("document.hasFocus()"));
+  for (const fragment of TABS) {
+    await openTab(browser, fragment);
     holds(`${fragment}: names, focus and keys`, await browser.value(FOUND), []);
     holds(`${fragment}: roles and headings`, await browser.value(STRUCTURE), []);
     holds(`${fragment}: contrast in the light`, await browser.value(CONTRAST), []);
     await browser.value(DARKEN);
     holds(`${fragment}: contrast in the dark`, await browser.value(CONTRAST), []);
   }
+}
+
+// What axe says of each tab, on a screen and on a phone. It may not fetch anything, and needs nothing.
+const AXE = `axe.run(document, { resultTypes: ["violations"], preload: false }).then(({ violations }) =>
+  violations.map(({ id, nodes }) => id + ": " + nodes.map(({ target }) => target.join(" ")).join(", ")))`;
+
+async function axe(browser) {
+  const source = axeSource();
+  if (!source) {
+    console.log("skipped what axe says of the page: no browser here has it");
+    return;
+  }
+  for (const [width, height] of [[1600, 1080], PHONE]) {
+    await browser.resize(width, height, width === PHONE[0]);
+    for (const fragment of TABS) {
+      await openTab(browser, fragment);
+      await browser.value(`{ ${source}; 0; }`);
+      holds(`${fragment}, ${width} wide: axe in the light`, await browser.value(AXE), []);
+      await browser.value(DARKEN);
+      holds(`${fragment}, ${width} wide: axe in the dark`, await browser.value(AXE), []);
+    }
+  }
+  await browser.resize(1600, 1080, false);
 }
 
 // From the address to a finding and its line, with keys alone.
@@ -490,7 +539,6 @@ async function keysAlone(browser) {
   const isAt = "document.activeElement.matches('.finding.warning .go')";
   for (let tries = 0; tries < 60 && !(await browser.value(isAt)); tries++) await browser.tab();
   holds("the tab key comes to a finding", await browser.value(isAt));
-  if (!(await hasFocus(browser, "that the enter key shows the line of a finding"))) return;
   await browser.key("Enter", "\r");
   holds("and the enter key shows its line", await browser.until("document.querySelector('#log .current') !== null"));
 }
@@ -510,8 +558,8 @@ browser.process.on("exit", () => {
   process.exit(counts.failed ? 1 : 0);
 });
 await browser.attach();
-const parts = [scripts, longLines, longRuns, links, recordings, longRecordings, longestRecording, addresses, keyboard, keysAlone, accessible,
-    live, look, phone, printed, network];
+const parts = [scripts, longLines, longRuns, links, recordings, longRecordings, longestRecording, addresses, keyboard, keysAlone, accessible, axe,
+    live, rings, look, phone, printed, network];
 for (const part of parts) await part(browser);
 counts.isDone = true;
 browser.close();

@@ -6,8 +6,8 @@ import { pathToFileURL } from "node:url";
 // Each browser has `attach`, `value` of an expression in the page, `go`, `reload`, `key`, `tab`, `insert`, `resize`, `dark`, `screenshot` and
 // `close`, its `process`, and in `errors` the exceptions of the page and what it asked the network for.
 export class Driver {
-  // Waits until an expression is true. A busy machine may take long.
-  async until(expression, seconds = 60) {
+  // Waits until an expression is true. A busy machine may take long: the bound is there so that a page which hangs is told.
+  async until(expression, seconds = 300) {
     const end = Date.now() + 1000 * seconds;
     while (Date.now() < end) {
       if (await this.value(expression)) return true;

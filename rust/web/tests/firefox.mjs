@@ -136,8 +136,8 @@ export class Firefox extends Driver {
     await this.socket.isOpen;
     await this.send("session.new", { capabilities: {} });
     await this.send("session.subscribe", { events: ["log.entryAdded", "network.beforeRequestSent"] });
-    const { contexts } = await this.send("browsingContext.getTree", { maxDepth: 0 });
-    this.context = contexts[0].context;
+    // Without a screen the first window never becomes active, and another one does: then what has the focus shows it, and takes keys.
+    this.context = (await this.send("browsingContext.create", { type: "window" })).context;
     await this.resize(1600, 1080);
   }
 
