@@ -18,10 +18,7 @@
 //! A rate is the frequency of the clock over a divisor, so a port is set up by its clock. Most boards with
 //! a device tree have a controller of clocks, which the firmware has set, and then no bytes say the
 //! frequency: [`config_of`] returns [`UnknownClockError`], and takes no other one in its place. Who knows the
-//! frequency sets [`PortDescription::clock`]. Who does not keeps what the firmware has set, by
-//! [`attach`](crate::native::Uart16550::attach); and where a baud rate is known that the firmware has set,
-//! the clock is 16 times the divisor and that rate
-//! ([`checked_frequency`](crate::native::spec::checked_frequency)).
+//! frequency sets [`PortDescription::clock`]. Who does not keeps what the firmware has set, by [`keep_settings`].
 //!
 //! # Examples
 //!
@@ -29,7 +26,7 @@
 //! use core::num::NonZeroUsize;
 //! use uart_16550::discovery::{self, AddressSpace};
 //! use uart_16550::native::backend::{ByteOrder, WideMemory};
-//! use uart_16550::native::{Uart16550, spec::checked_frequency};
+//! use uart_16550::native::Uart16550;
 //!
 //! # fn start(tree: &'static [u8]) -> Result<(), Box<dyn std::error::Error>> {
 //! let mut port = discovery::read_device_tree(tree, ByteOrder::NATIVE)?;
@@ -41,12 +38,7 @@
 //! match discovery::config_of(&port) {
 //!     Ok(config) => uart.init(config.nearest(20)?)?,
 //!     // The console goes on as the firmware left it.
-//!     Err(discovery::UnknownClockError) => {
-//!         let (dll, dlm) = uart.attach()?;
-//!         let divisor = u16::from_le_bytes([dll, dlm]).into();
-//!         // To set up another rate or frame, later.
-//!         port.clock = port.baud_rate.and_then(|rate| checked_frequency(rate, divisor, None));
-//!     }
+//!     Err(discovery::UnknownClockError) => discovery::keep_settings(&mut uart, &mut port)?,
 //! }
 //! # Ok(())
 //! # }
@@ -60,8 +52,9 @@ pub use uart_discovery::{
 
 use core::error::Error;
 use core::fmt;
-use uart_driver::{BaudRate, Config};
-use uart_spec::CLK_FREQUENCY_HZ;
+use uart_driver::backend::Backend;
+use uart_driver::{AttachError, BaudRate, Config, Uart16550};
+use uart_spec::{CLK_FREQUENCY_HZ, checked_frequency};
 
 /// The first port that ISA does not have: it decodes ten bits of an address.
 const END_OF_PC_PORTS: u64 = 0x400;
@@ -114,4 +107,39 @@ pub fn config_of(port: &PortDescription) -> Result<Config, UnknownClockError> {
             .map_or(Config::DEFAULT.baud_rate, BaudRate::from_integer),
         ..Config::DEFAULT
     })
+}
+
+/// Keeps what the firmware has set at a port, by [`attach`](Uart16550::attach): its rate, its frame and its
+/// FIFOs. Then sets [`PortDescription::clock`], if it is not known and the description has the baud rate that
+/// the firmware has set: the clock is 16 times the divisor and that rate. With it [`config_of`] can set up
+/// another rate later. Where the baud rate is not known either, the clock stays `None`.
+///
+/// # Errors
+///
+/// Those of [`attach`](Uart16550::attach). Then nothing of the description is changed.
+///
+/// # Examples
+///
+/// ```no_run
+/// use uart_16550::discovery::{PortDescription, keep_settings};
+/// use uart_16550::native::backend::Backend;
+/// use uart_16550::native::{AttachError, Uart16550};
+///
+/// # fn take(mut uart: Uart16550<impl Backend>, mut port: PortDescription) -> Result<(), AttachError> {
+/// keep_settings(&mut uart, &mut port)?;
+/// uart.send_bytes_exact(b"at the rate of the firmware\r\n").ok();
+/// # Ok(())
+/// # }
+/// ```
+pub fn keep_settings<B: Backend>(
+    uart: &mut Uart16550<B>,
+    port: &mut PortDescription,
+) -> Result<(), AttachError> {
+    let (dll, dlm) = uart.attach()?;
+    let divisor = u16::from_le_bytes([dll, dlm]).into();
+    let found = port
+        .baud_rate
+        .and_then(|rate| checked_frequency(rate, divisor, None));
+    port.clock = port.clock.or(found);
+    Ok(())
 }

@@ -7,12 +7,11 @@ mod common;
 use common::Chip;
 use uart_16550::discovery::{
     AddressSpace, Interrupt, OptionError, PciError, PortDescription, TableError, TableFault,
-    TreeError, UnknownClockError, config_of, read_console, read_dbg2, read_device_tree,
+    TreeError, UnknownClockError, config_of, keep_settings, read_console, read_dbg2, read_device_tree,
     read_earlycon, read_pci, read_spcr, read_tree_node,
 };
-use uart_16550::native::Uart16550;
+use uart_16550::native::{AttachError, Uart16550};
 use uart_16550::native::backend::{ByteOrder, RegisterLayout, RegisterWidth};
-use uart_16550::native::spec::checked_frequency;
 
 const BYTES: RegisterLayout = RegisterLayout {
     stride: 1,
@@ -418,23 +417,43 @@ fn no_clock_is_guessed() {
     assert_eq!(frequency(&memory), Ok(500_000_000));
 }
 
+/// A port whose clock nothing says.
+fn without_clock(console: &[u8]) -> PortDescription {
+    let port = read_device_tree(&tree_with(console, &RANGES, &[]), ByteOrder::Little).unwrap();
+    assert_eq!(config_of(&port).err(), Some(UnknownClockError));
+    port
+}
+
+/// A driver over a chip that the firmware has set up with this divisor.
+fn set_up(divisor: u8) -> Uart16550<Chip> {
+    Uart16550::new_with_backend(Chip {
+        latch: [divisor, 0],
+        ..Chip::default()
+    })
+}
+
 /// What the firmware has set is kept, and says the clock: the tree has no clock, and the command line a rate.
 #[test]
 fn a_clock_is_found_from_what_the_firmware_set() {
-    let mut port = read_device_tree(&tree_with(b"serial0:115200n8\0", &RANGES, &[]), ByteOrder::Little).unwrap();
-    assert_eq!(config_of(&port).err(), Some(UnknownClockError));
+    let mut port = without_clock(b"serial0:115200n8\0");
     // The firmware knows that the clock has 24 MHz, and has taken the nearest divisor.
-    let mut uart = Uart16550::new_with_backend(Chip {
-        latch: [13, 0],
-        ..Chip::default()
-    });
-    let (dll, dlm) = uart.attach().unwrap();
-    let divisor = u16::from_le_bytes([dll, dlm]).into();
-    port.clock = port.baud_rate.and_then(|rate| checked_frequency(rate, divisor, None));
+    let mut uart = set_up(13);
+    keep_settings(&mut uart, &mut port).unwrap();
+    assert_eq!(uart.backend().latch, [13, 0]);
     assert_eq!(port.clock, Some(23_961_600));
     // The same rate has the same divisor.
     uart.init(config_of(&port).unwrap()).unwrap();
     assert_eq!(uart.backend().latch, [13, 0]);
+    // A clock that is known stays.
+    port.clock = Some(24_000_000);
+    keep_settings(&mut set_up(1), &mut port).unwrap();
+    assert_eq!(port.clock, Some(24_000_000));
+    // Without a rate nothing says the clock, and the port is kept.
+    let mut port = without_clock(b"serial0\0");
+    keep_settings(&mut set_up(13), &mut port).unwrap();
+    assert_eq!(port.clock, None);
+    // A port that nobody has set up.
+    assert_eq!(keep_settings(&mut set_up(0), &mut port), Err(AttachError::NoDivisor));
 }
 
 /// A device tree, written token by token.
@@ -650,6 +669,42 @@ fn a_damaged_tree_is_no_panic() {
         }
     }
     assert!(found > count() / 10);
+}
+
+/// What is said of a port that is used, as integration/trees has it.
+fn line_of(port: &PortDescription) -> String {
+    let order = if port.layout.byte_order == ByteOrder::Big { "big" } else { "little" };
+    let RegisterLayout { stride, width, .. } = port.layout;
+    format!("{:x} {stride} {} {order}", port.base, width.bytes())
+}
+
+/// The divisor that a driver sets for a console; or the clock by what the firmware has set, where nothing says the clock, or that clock
+/// does not give the rate.
+fn start_of(mut port: PortDescription) -> String {
+    let mut uart = set_up(13);
+    let said = config_of(&port).ok().map(|config| config.nearest(20));
+    if let Some(Ok(config)) = said {
+        uart.init(config).unwrap();
+        return format!("divisor {}", u16::from_le_bytes(uart.backend().latch));
+    }
+    keep_settings(&mut uart, &mut port).unwrap();
+    assert_eq!(uart.backend().latch, [13, 0]);
+    format!("attach {}", port.clock.map_or("-".into(), |clock| clock.to_string()))
+}
+
+/// What is said of the trees that the file TREES lists, into the file FOUND: integration/trees compares it with what another reader says.
+#[test]
+#[ignore = "the trees are those that integration/trees unpacks"]
+fn trees_of_a_list() {
+    let named = |name| std::env::var(name).unwrap();
+    let mut found = String::new();
+    for name in std::fs::read_to_string(named("TREES")).unwrap().lines() {
+        let tree = std::fs::read(name).unwrap();
+        let console = read_device_tree(&tree, ByteOrder::Little)
+            .map_or("-".into(), |port| format!("{} {}", line_of(&port), start_of(port)));
+        found += &format!("{name}: console {console}\n");
+    }
+    std::fs::write(named("FOUND"), found).unwrap();
 }
 
 /// Numbers that look random, the same in each run.
