@@ -336,6 +336,7 @@ calls! {
     read_device_tree(blob: &[u8], native: ByteOrder) -> Result<PortDescription, TreeError> { discovery::read_device_tree(blob, native) }
     read_tree_node(blob: &[u8], path: &[u8], native: ByteOrder) -> Result<PortDescription, TreeError> { discovery::read_tree_node(blob, path, native) }
     config_of(port: &PortDescription) -> Result<Config, UnknownClockError> { discovery::config_of(port) }
+    keep_settings(uart: &mut Uart, port: &mut PortDescription) -> Result<(), AttachError> { discovery::keep_settings(uart, port) }
     config_character_clocks(config: &Config) -> Result<u64, InvalidDivisorError> { config.character_clocks() }
     config_handler_clocks(config: &Config, size: FifoSize) -> Result<u64, InvalidDivisorError> { config.handler_clocks(size) }
     config_handler_budget(config: &Config, size: FifoSize, access: u64, before: u64) -> Result<Option<u64>, InvalidDivisorError> { config.handler_budget(size, access, before) }

@@ -4,10 +4,10 @@
 #![allow(missing_docs, clippy::missing_errors_doc)]
 
 use core::fmt::{self, Write as _};
-use uart_16550_chip::registers::{LSR, MSR};
+use uart_16550_chip::registers::{LSR, MCR, MSR};
 use uart_16550_chip::serial::{BadState, Error, FromStateError, TriggerError};
 use uart_16550_chip::{
-    Answer, ArrayVec, Character, Chip, ChipData, ChipError, Clock, FifoSize, InputError, LiveChip, LiveChipWith,
+    Answer, ArrayVec, Character, Chip, ChipData, ChipError, Clock, FifoSize, InputError, LineSettings, LiveChip, LiveChipWith,
     NoEvents, Output, Received, RestoreError, Restored, Serial, SerialState, Todo, Trigger, VirtualPort, VirtualPortWith,
 };
 
@@ -142,6 +142,8 @@ calls! {
     serial_into_parts(serial: Console) -> (Device, NoEvents, Device) { serial.into_parts() }
     serial_output(serial: &Console) -> &[u8] { serial.output() }
     serial_level(serial: &Console) -> bool { serial.level() }
+    serial_outputs(serial: &Console) -> MCR { serial.outputs() }
+    serial_settings(serial: &Console) -> LineSettings { serial.settings() }
     serial_overflows(serial: &Console) -> u64 { serial.overflows() }
     serial_write_output(serial: &mut Console) -> Result<usize, Failed> { serial.write_output() }
     serial_resample(serial: &mut Console) -> Result<(), Failed> { serial.resample() }
@@ -156,6 +158,7 @@ calls! {
     serial_write_bytes(serial: &mut Console, offset: u8, values: &[u8]) -> Result<(), Failed> { serial.write_bytes(offset, values) }
     serial_set_bursts(serial: &mut Console, has_bursts: bool) -> Result<(), Failed> { serial.set_bursts(has_bursts) }
     serial_set_clock(serial: &mut Console, has_clock: bool) -> Result<(), Failed> { serial.set_clock(has_clock) }
+    serial_set_handler_drains(serial: &mut Console, drains: bool) -> Result<(), Failed> { serial.set_handler_drains(drains) }
     serial_is_timeout_to_come(serial: &Console) -> bool { serial.is_timeout_to_come() }
     serial_timeout_passed(serial: &mut Console) -> Result<(), Failed> { serial.timeout_passed() }
     serial_fifo_capacity(serial: &Console) -> usize { serial.fifo_capacity() }

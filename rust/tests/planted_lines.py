@@ -17,6 +17,7 @@ COUNTERS = 'rust/uart_16550_vmm/src/counters.rs'
 AROUND = 'rust/uart_16550_vmm/src/linux.rs'
 INPUT = 'rust/uart_16550_vmm/src/input.rs'
 LOSSY = 'rust/uart_16550_vmm/src/lossy.rs'
+SUPERIO = 'rust/uart_16550_vmm/src/superio.rs'
 
 LOAD = '''    barrier();
     // SAFETY: by the promise of the caller.
@@ -52,7 +53,17 @@ NAMED = [
     ('a failed trigger is not tried again at a look for output', SERIAL, 'let mut raised = self.tell_owed();', 'let mut raised = Ok(());', 'tests'),
     ('a failed trigger is forgotten', SERIAL, '        self.is_owed = true;\n', '', 'tests'),
     ('what the trigger failed to tell is put off', SERIAL, '            _ if self.is_owed => false,\n', '', 'tests'),
-    ('a signal that is put off is given too', SERIAL, 'self.events.timeout_to_come();\n            return Ok(());\n', 'self.events.timeout_to_come();\n', 'tests'),
+    ('a signal that is put off is given too', SERIAL, '            return Ok(());\n        }\n        let has_risen', '        }\n        let has_risen', 'tests'),
+    ('a handler that drains is told each time', SERIAL, 'if self.has_clock || self.has_draining_handler {', 'if self.has_clock {', 'tests'),
+    ('a handler that drains waits for what it writes', SERIAL, '            Caller::Writer(_) if !self.has_clock => false,\n', '', 'tests'),
+    ('a handler that drains starts a timer', SERIAL, '            if self.has_clock {\n                self.events.timeout_to_come();\n            }\n', '            self.events.timeout_to_come();\n', 'tests'),
+    ('outputs are told though they stay', SERIAL, 'if outputs != self.outputs {', 'if true {', 'tests'),
+    ('a loop shows outputs', SERIAL, 'if mcr.contains(MCR::LOOP_BACK) {', 'if false {', 'tests'),
+    ('half a divisor is told', SERIAL, 'if settings != self.settings && !lcr.contains(LCR::DLAB) {', 'if settings != self.settings {', 'tests'),
+    ('a process that goes on is not told of its outputs', SERIAL, '        serial.events.out_lines(serial.outputs);\n', '', 'tests'),
+    ('a process that goes on is not told of its rate', SERIAL, '        serial.events.out_settings(serial.settings);\n', '', 'tests'),
+    ('a state of others has news of its lines', SUPERIO, '        port.read(offsets::MSR as u8);\n', '', 'tests'),
+    ('a handler that drains no more is not told', SERIAL, 'if drains || self.has_clock {', 'if true {', 'tests'),
     ('a clock puts off nothing after a read', SERIAL, 'Caller::Reader(offset) => self.clock.after_read(offset, &mut todo),', 'Caller::Reader(_) => false,', 'tests'),
     ('a clock puts off nothing after a write', SERIAL, 'Caller::Writer(offset) => self.clock.after_write(offset, &mut todo),', 'Caller::Writer(_) => false,', 'tests'),
     ('what is put off stays when the guest is interrupted', SERIAL, 'self.clock.is_owed &= level && !signal;', 'self.clock.is_owed &= level;', 'tests'),

@@ -22,6 +22,7 @@ USES: dict[str, dict[str, str]] = {
     "rust/uart_16550": {
         **OF_KIT,
         "uart_spec": "uart_spec",
+        "uart_original": "uart_original",
         "uart_driver": "uart_16550",
         "uart_design_ware": "uart_design_ware",
         "uart_rs485": "uart_rs485",
@@ -199,7 +200,7 @@ def cargo(name: str, text: str, uses: dict[str, str]) -> list[str]:
         if isinstance(wanted, dict) and "path" in wanted:
             if wanted.get("version") != f"={package.get('version')}":
                 found.append(f"{name}: the dependency {one} is of any version")
-            elif one not in uses or {key: wanted[key] for key in wanted if key != "version"} != package_of(uses[one]):
+            elif one not in uses or {key: wanted[key] for key in wanted if key not in ("version", "optional")} != package_of(uses[one]):
                 found.append(f"{name}: the dependency {one} is another package, or one that this package does not use")
         elif one not in STAND_INS or not is_optional(wanted):
             found.append(f"{name}: the dependency {one}")

@@ -491,7 +491,7 @@ EXAMPLES |= {
 # The package of the users that the examples of a crate name, under which name, and the shared file. The rings have a crate `uart_16550`.
 SHARED = {
     **{name: ("uart_16550", "uart_16550", FOR_DRIVER) for name in ("uart_spec", "uart_16550")},
-    **{name: ("uart_16550", "facade", FOR_DRIVER) for name in ("uart_design_ware", "uart_rs485", "uart_ring", "uart_discovery")},
+    **{name: ("uart_16550", "facade", FOR_DRIVER) for name in ("uart_original", "uart_design_ware", "uart_rs485", "uart_ring", "uart_discovery")},
     **{name: ("uart_16550_chip", "uart_16550_chip", FOR_CHIP) for name in ("uart_live", "uart_virtual")},
 }
 

@@ -32,14 +32,14 @@ MEANINGS = {
         "frequency_of baud_rate divisor factor = 16 * (prescaler factor + 1) * baud_rate * divisor",
     ),
     "HasBaudRate": (
-        "Rattle.uart_spec.specs.Original",
-        "uart_spec/specs/Original.antt",
+        "Rattle.uart_original.specs.Original",
+        "uart_original/specs/Original.antt",
         "abbrev pub HasBaudRate : Config → ConfigRegisterDump → Type 0 HasBaudRate config dump = "
         "(rate : ℕ) × IsCheckedRate config.frequency (divisor_of dump) config.prescaler_division_factor (Ok rate)",
     ),
     "driver_dump": (
-        "Rattle.uart_spec.specs.Original",
-        "uart_spec/specs/Original.antt",
+        "Rattle.uart_original.specs.Original",
+        "uart_original/specs/Original.antt",
         "abbrev pub driver_dump : OwnConfigRegisterDump → ConfigRegisterDump driver_dump d = record { ier = d.ier; isr = d.isr; "
         "lcr = d.lcr; mcr = d.mcr; lsr = d.lsr; msr = d.msr; spr = d.spr; dll = d.dll; dlm = d.dlm; }",
     ),

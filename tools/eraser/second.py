@@ -21,9 +21,9 @@ CONTRACTS = ("requires", "ensures", "ghost")
 # Methods that get another name where their one argument is an allocator.
 WITH_ALLOCATOR = ("collect", "to_vec", "to_string")
 # The files whose errors of a cause have `Error` by hand in Rust, and these errors.
-ERRORS = ("uart_spec/src/errors.rt", "uart_spec/src/original.rt")
+ERRORS = ("uart_spec/src/errors.rt", "uart_original/src/errors.rt")
 OF_A_CAUSE = "InitError|FrameError|LoopbackError|Uart16550TtyError"
-EMPTY_ERROR = rf"# \[ automatically_derived \] impl < > std :: error :: Error for (?:{OF_A_CAUSE}) < > where \{{ \}}"
+EMPTY_ERROR = rf"(?:# \[ automatically_derived \] )?impl (?:< > )?std :: error :: Error for (?:{OF_A_CAUSE}) (?:< > where )?\{{ \}}"
 # What a page of definitions is.
 MODULE = r'(# \[ doc \( alias \( ("\w+"( , )?)+ \) \) \] )?pub mod \w+ \{ \}'
 OF_OTHER = r"# \[ doc \( inline \) \] pub use \w+ :: proved as \w+ ;"
@@ -218,10 +218,10 @@ class Source:
             return at + 10
         if tokens[at] == "use" and "laws" in [one.text for one in tokens[at : self.semicolon(at)]]:
             return self.semicolon(at) + 1
-        if tokens[at] == "impl":
-            return self.implementation(at)
         if self.has_errors_by_hand and self.error(at) != at:
             return self.error(at)
+        if tokens[at] == "impl":
+            return self.implementation(at)
         return self.lemma(at) or at
 
     def semicolon(self, at: int) -> int:

@@ -38,7 +38,9 @@ RULES = [
 # The crates that become packages. What ships is part of a program of a user, on any target. The others are parts of this repository's
 # programs. Of them, those of a page in a browser are also compiled for WebAssembly, where `usize` has 32 bits; the rest are of targets of
 # 64 bits.
-SHIPS = "uart_spec uart_16550 uart_design_ware uart_rs485 uart_ring uart_waits uart_discovery uart_events uart_chip uart_live uart_virtual".split()
+SHIPS = """
+uart_spec uart_original uart_16550 uart_design_ware uart_rs485 uart_ring uart_waits uart_discovery uart_events uart_chip uart_live uart_virtual
+""".split()
 OF_PROGRAMS = "uart_calls uart_run uart_ring_runs uart_link uart_language uart_play uart_judges uart_trace uart_port uart_machine".split()
 OF_THE_PAGE = "uart_calls uart_run uart_ring_runs uart_link uart_language uart_play uart_judges uart_trace uart_port".split()
 CRATES = SHIPS + OF_PROGRAMS
@@ -62,6 +64,7 @@ OF_TESTS = {
 BY_HAND = {
     "uart_spec/src/lib.rt": "mod by_hand;",
     "uart_spec/src/registers.rt": "mod by_hand;",
+    "uart_original/src/lib.rt": "mod by_hand;",
     "uart_16550/src/lib.rt": "mod by_hand;",
     "uart_waits/src/lib.rt": "mod by_hand;",
     "uart_chip/src/lib.rt": "mod by_hand;",
@@ -74,7 +77,7 @@ EMBEDDED_IO = ["uart_spec", "uart_16550", "uart_waits"]
 # The errors that have `core::error::Error` by hand, by their files: they tell of a cause, and Rattle's has no `source`.
 ERRORS = {
     "uart_spec/src/errors.rt": ["InitError", "FrameError", "LoopbackError", "Uart16550TtyError"],
-    "uart_spec/src/original.rt": ["InitError", "LoopbackError", "Uart16550TtyError"],
+    "uart_original/src/errors.rt": ["InitError", "LoopbackError", "Uart16550TtyError"],
 }
 
 # Structs whose fields stay in the order of the source. So the backend is at the driver's own address, and a call of it adds nothing to that.
@@ -96,10 +99,10 @@ MAY_GROW = [
     "uart_discovery::port::Interrupt",
 ]
 # Those that the original leaves open, whatever features there are: programs for it have a case for all others.
-IS_OPEN = [f"uart_spec::original::{name}Error" for name in ("Init", "InvalidDivisor")]
+IS_OPEN = [f"uart_original::errors::{name}Error" for name in ("Init", "InvalidDivisor")]
 # Of these, the crates that others match, and the crates that do.
 GROWING = ["uart_spec", "uart_design_ware", "uart_ring", "uart_waits", "uart_discovery"]
-NAME_EACH = ["uart_language"]
+NAME_EACH = ["uart_original", "uart_language"]
 
 # The functions that are `const fn`, so that callers can make a driver or a configuration in a `static`.
 CONSTANT = """
@@ -143,7 +146,7 @@ uart_16550::driver::Uart16550::set_fifo_size
 uart_16550::driver::Uart16550::spin_limit
 uart_16550::driver::Uart16550::set_spin_limit
 uart_spec::dump::ConfigRegisterDump::divisor
-uart_spec::original::ConfigRegisterDump::divisor
+uart_original::dump::ConfigRegisterDump::divisor
 uart_16550::mmio::MmioBackend::base
 uart_16550::mmio::MmioBackend::stride
 uart_16550::pio::PioBackend::base
@@ -290,7 +293,7 @@ GUARDS = {
         panics="If the divisor is not 0, and the frequency is 0 or the prescaler division factor is above 15.",
         reason="the divisor 0 is refused before",
     ),
-    "uart_spec::original::ConfigRegisterDump::baud_rate": Guard(
+    "uart_original::dump::ConfigRegisterDump::baud_rate": Guard(
         ["requires { HasBaudRate config.now (driver_dump self.now) }"],
         test="""assert!(
     checked_baud_rate(

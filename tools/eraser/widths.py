@@ -31,7 +31,7 @@ LISTED = {
     },
     "uart_spec/src/config.rt": {"ticks * divisor": U64, "1000 * exact": U64, "u64 * exact": U64, "exact . abs_diff": U64},
     "uart_spec/src/dump.rt": {"256 * self": U16},
-    "uart_spec/src/original.rt": {"256 * self": U16},
+    "uart_original/src/dump.rt": {"256 * self": U16},
     "uart_spec/src/checked.rt": {"TICKS_PER_BIT * (": U32, "ticks . checked_mul": U32, "? . checked_mul": U32},
     "uart_spec/src/timing.rt": {
         "2 * config": U64,

@@ -130,7 +130,7 @@ BY_DRIVER = "automatic flow control, which no live chip has: scripts that are pl
 NOT_REACHED = {
     r"(PartialEq::eq|PartialOrd::partial_cmp|Ord::cmp) \d+ case \d+(\|\d+)*$": "another variant: their numbers were compared before",
     r"Clone::clone \d+ case 1$": "no memory: what is cloned has none",
-    r"^uart_spec::original::ConfigRegisterDump::baud_rate 2 case 1$": "a rate that cannot be had, which its contract refuses",
+    r"^uart_original::dump::ConfigRegisterDump::baud_rate 2 case 1$": "a rate that cannot be had, which its contract refuses",
     r"^uart_16550::driver::Uart16550::check_registers \d+ case \d$": "a device that shows three registers as the arguments ask: "
     "the tests of `check_configured` have one, on both sides",
     r"^uart_chip::controlling::read_register 8 case 5$": "LSR, which `read` looks for before",
@@ -177,7 +177,7 @@ CONTRACTS = {
     "uart_spec::config::Config::nearest": NOT_COMPUTABLE.format("a0"),
     "uart_spec::dump::ConfigRegisterDump::baud_rate": "(a0.dll != 0 || a0.dlm != 0) && "
     f"(a1.frequency == 0 || {PRESCALER.format('a1.prescaler_division_factor')})",
-    "uart_spec::original::ConfigRegisterDump::baud_rate": "crate::proved::uart_spec::checked_baud_rate(a1.frequency, "
+    "uart_original::dump::ConfigRegisterDump::baud_rate": "crate::proved::uart_spec::checked_baud_rate(a1.frequency, "
     "u32::from(a0.divisor()), a1.prescaler_division_factor).is_err()",
     "uart_spec::registers::prescaler_division::PSD::set_pdf": "a1 > 15",
     "uart_16550::driver::init::Uart16550::init": NOT_COMPUTABLE.format("a1"),

@@ -92,8 +92,8 @@ class Names:
 
 
 def in_one_word(path: str) -> str:
-    """A path as the name of an implementation in the MIR has it."""
-    return "".join(part[:1].upper() + part[1:] for part in path.split("::"))
+    """A path as the name of an implementation in the MIR has it. A crate below begins such a path there; here it is a module."""
+    return "".join(part[:1].upper() + part[1:] for part in path.removeprefix("crate::proved::").split("::"))
 
 
 def title(function: Function) -> str:
