@@ -10,9 +10,9 @@ At a function the comment is the first below its signature, where the eraser dro
 In specs/ it stands above the comment of a definition, with an empty line behind it, and `with` names all that says it. A line that goes
 on has three blanks behind its sign. If `with` names nothing of the function itself, the whole function says it.
 
-What a README says beyond that, of a function or of a part of its contract, stands there too:
+What is proved beyond that, of a function or of a part of its contract, stands there too:
 
-    // proved: what is proved, in the words of the README of the crate
+    // proved: what is proved, in a sentence
     // on: the contracts that say it, in Markdown
 """
 import functools
