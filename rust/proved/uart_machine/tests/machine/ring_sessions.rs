@@ -1,8 +1,12 @@
 //! Runs in which what the laws on sessions of rings ask for holds: nothing keeps a call of the driver from its end.
 
+#[path = "../../../uart_run/tests/premises/mod.rs"]
+mod premises;
+
 use crate::machines::machine;
 use core::num::NonZeroU64;
 use geesetrunk_kit_of_rings::alloc::Global;
+use premises::{Begin, is_within_session, keeps_checks, keeps_size};
 use proved_uart_machine::{Answer, Call, Chip, Device16550, RingAnswer, RingCall, run_ring};
 use uart_16550::Uart16550;
 use uart_ring::{ReceiveMarks, Uart16550Ring};
@@ -70,9 +74,53 @@ fn session() -> Vec<RingCall> {
 
 const ADDED: usize = 21 + 9 + 1 + 1;
 
+/// This holds of each call of the driver among these.
+fn of_the_driver(calls: &[RingCall], holds: fn(&Call) -> bool) -> bool {
+    calls.iter().all(|call| match call {
+        RingCall::Driver(call) => holds(call),
+        _ => true,
+    })
+}
+
+/// Each call goes on with a session that began with a wired machine: those of the rings all do.
+fn all_within_ring_session(calls: &[RingCall]) -> bool {
+    of_the_driver(calls, is_within_session)
+}
+
+fn keeps_ring_size(calls: &[RingCall]) -> bool {
+    of_the_driver(calls, keeps_size)
+}
+
+fn keeps_ring_checks(calls: &[RingCall]) -> bool {
+    of_the_driver(calls, keeps_checks)
+}
+
+/// The wire has room for what waits in the rings too, and for so many bytes more.
+fn has_ring_room(ring: &mut Uart16550Ring<Device16550>, capacity: usize, more: usize) -> bool {
+    let waiting = ring.transmit_len();
+    begin(ring, capacity).has_room(waiting + more)
+}
+
+fn begin(ring: &mut Uart16550Ring<Device16550>, capacity: usize) -> Begin<'_> {
+    Begin {
+        driver: ring.inner_mut(),
+        char_ticks: CHAR_TICKS,
+        capacity,
+        ahead: &[],
+    }
+}
+
 #[test]
 fn with_room_for_all_of_it_no_call_of_a_session_of_rings_stalls() {
     let mut ring = rings(2 + ADDED);
+    // What the laws ask for.
+    let mut start = begin(&mut ring, 2 + ADDED);
+    assert!(start.is_unhindered() && start.is_timely() && start.is_unchecked());
+    assert!(start.bursts_fit());
+    assert!(all_within_ring_session(&session()));
+    assert!(keeps_ring_size(&session()) && keeps_ring_checks(&session()));
+    assert!(has_ring_room(&mut ring, 2 + ADDED, ADDED));
+    assert!(!has_ring_room(&mut ring, 2 + ADDED, ADDED + 1));
     for (call, answer) in session().iter().zip(answers(&mut ring, &session())) {
         if let RingCall::Driver(_) = call {
             assert_eq!(answer, done(), "{call:?}");
