@@ -24,8 +24,8 @@ TOP = pathlib.Path(__file__).resolve().parent.parent
 BESIDE = {"LICENSE-APACHE": "LICENSE-APACHE", "LICENSE-MIT": "LICENSE-MIT", "C.md": "docs/C.md"}
 # What `make check` runs.
 BESIDE |= {f"check/{one}": f"tools/c/compared/{one}" for one in
-           ("hosted.c", "choices.h", "calls.h", "console.h", "console_config.h", "port.h")} | {"check/each.h": "rust/uart_16550_c/tests/each.h"}
-NOT_SHIPPED = {"for_release.py"}
+           ("hosted.c", "choices.h", "calls.h", "console.h", "console_config.h", "port.h")} | {"check/each.h": "c/tests/each.h"}
+NOT_SHIPPED = re.compile(r"for_release\.py|tests/")
 CHANGES = "CHANGELOG.md"
 # The host of an address that nobody has: https://www.rfc-editor.org/rfc/rfc2606
 NOBODY = ".invalid"
@@ -61,7 +61,7 @@ def causes():
 def files():
     """The names in the archive, in order, with what they have."""
     listed = subprocess.run(["git", "-C", TOP, "ls-files", "-z", "c"], capture_output=True, text=True, check=True).stdout
-    names = {name: name.removeprefix("c/") for name in filter(None, listed.split("\0")) if name.removeprefix("c/") not in NOT_SHIPPED}
+    names = {name: name.removeprefix("c/") for name in filter(None, listed.split("\0")) if not NOT_SHIPPED.match(name.removeprefix("c/"))}
     names |= {source: name for name, source in BESIDE.items()}
     found = {name: (TOP / source).read_bytes() for source, name in names.items()}
     for source, name in names.items():

@@ -1,5 +1,5 @@
 """The interface of the driver for C, as one table: the numbers that functions return and their texts, the data, which values are refused,
-and the functions. `emit` makes the header and the layer of it, and what the library of Rust has of it: its header and its numbers."""
+and the functions. `emit` makes the header and the layer of it, and a list of all calls for tests."""
 from table import SAME, ByHand, Call, Codes, Enum, Field, Group, Member, Number, Numbers, Section, Struct, Value
 
 # What holds of each function, at the top of the headers.

@@ -1,5 +1,5 @@
-"""The pair u16550: the driver with its rings, and the functions of its header as a layer around them; and what the library of Rust has of the
-table of the interface."""
+"""The pair u16550: the driver with its rings, and the functions of its header as a layer around them; and what its tests have of the table of
+the interface."""
 import pathlib
 import re
 import sys
@@ -62,12 +62,9 @@ def version():
 
 
 def of_table():
-    """The files that need no proof, by their paths: the header and the numbers of the library that is made of Rust, and each call for its
-    tests."""
+    """The file that needs no proof, by its path: each call, for tests."""
     table.check(calls)
-    of_rust = "rust/uart_16550_c"
-    return {f"{of_rust}/include/u16550.h": header.of_rust(text_of("header_rust.h"), version()),
-            f"{of_rust}/src/codes.rs": header.numbers_in_rust(version()), f"{of_rust}/tests/each.h": each.text()}
+    return {"c/tests/each.h": each.text()}
 
 
 def wanted(library, text):

@@ -1,11 +1,8 @@
-"""The headers, from the table of the interface: that of the C, and that of the library that is made of Rust. What the two do not share is in
-header_c.h and header_rust.h."""
+"""The header, from the table of the interface. What is in no row of it is in header_c.h."""
 import calls
-import syntax as c
 
 # How far to the right the remarks of numbers and of fields begin, and how long a line is.
 NUMBER, FIELD, WIDTH = 33, 39, 128
-CONVENTION = "U16550_CALL "
 # What each file that users copy begins with. Without the folder of the repository nothing else tells what they may do with it.
 LICENCE = """/* SPDX-FileCopyrightText: 2025 Philipp Schuster, 2026 Geesetrunk */
 /* SPDX-License-Identifier: MIT OR Apache-2.0 */
@@ -48,7 +45,7 @@ def bits(one):
     return [(member.name, f"{member.value:#04x}" if one in calls.BITS else member.value, member.note) for member in one.members]
 
 
-def types(convention):
+def types():
     """The data."""
     out = []
     for one in [*calls.TYPES, *calls.BITS]:
@@ -56,24 +53,22 @@ def types(convention):
             out.append(enum_of(one.name, one.about, bits(one)))
             continue
         lines = [remarked(f"    {field.declared};", field.note, FIELD) for field in one.members]
-        lines = [line.replace("(*", f"({convention}*") for line in lines]
         out.append(comment(one.about) + f"struct u16550_{one.name} {{\n" + "\n".join(lines) + "\n};\n")
     return "\n".join(out)
 
 
-def declared(call, convention):
+def declared(call):
     """The declaration of a function."""
     result = f"{getattr(call, 'returns', 'int')} "
-    first = f"{result.replace('* ', '*')}{convention}u16550_{call.name}("
-    takes = call.takes.replace("(*", f"({convention}*")
-    whole = f"{first}{takes});"
+    first = f"{result.replace('* ', '*')}u16550_{call.name}("
+    whole = f"{first}{call.takes});"
     if len(whole) <= WIDTH:
         return whole
     cut = whole.rindex(", ", 0, WIDTH)
     return whole[:cut + 1] + "\n" + " " * len(first) + whole[cut + 2:]
 
 
-def functions(convention, proved):
+def functions(proved):
     """The functions, each with what is proved of it."""
     out = []
     for section in calls.SECTIONS:
@@ -82,7 +77,7 @@ def functions(convention, proved):
                                                                                section.about.strip().split("\n")) + " */\n"))
         if section.lines:
             out.append(section.lines.strip() + "\n")
-        out += [comment(group.about) + "".join(proved(one) + declared(one, convention) + "\n" for one in group.calls) for group in section.groups]
+        out += [comment(group.about) + "".join(proved(one) + declared(one) + "\n" for one in group.calls) for group in section.groups]
     return "\n".join(out)
 
 
@@ -106,11 +101,11 @@ def version(number):
             f"#define U16550_VERSION_NUMBER {major * 10000 + minor * 100 + patch}\n")
 
 
-def filled(template, number, convention, kept="", proved=lambda call: ""):
+def filled(template, number, kept, proved):
     """A template with what the table says."""
     parts = {"RULES": "".join(f" * {one}".rstrip() + "\n" for one in calls.RULES.strip().split("\n")), "VERSION": version(number),
-             "NUMBERS": numbers(), "TYPES": types(convention), "KEPT": kept, "HANDLE": comment(calls.HANDLE), "CHIP": comment(calls.CHIP),
-             "NOTES": comment(calls.NOTES), "BUS": comment(calls.BUS), "CALLS": functions(convention, proved), "STRUCTS": structs(),
+             "NUMBERS": numbers(), "TYPES": types(), "KEPT": kept, "HANDLE": comment(calls.HANDLE), "CHIP": comment(calls.CHIP),
+             "NOTES": comment(calls.NOTES), "BUS": comment(calls.BUS), "CALLS": functions(proved), "STRUCTS": structs(),
              "MAKERS": makers()}
     for name, text in parts.items():
         template = template.replace(f"@{name}@", text)
@@ -122,26 +117,4 @@ def of_c(template, number, kept, proved):
     def told(call):
         lines = proved.get(call.name) or proved.get(f"config_{call.name}") or []
         return comment("\n".join(lines)) if lines else ""
-    return LICENCE + filled(template, number, "", kept, told)
-
-
-def of_rust(template, number):
-    """The header of the library that is made of Rust."""
-    return LICENCE + filled(template, number, CONVENTION)
-
-
-def numbers_in_rust(version):
-    """The numbers and their texts as the library of Rust has them, and its version: that of the package, which rustc alone does not know."""
-    members = [one for group in calls.NUMBERS for one in group.members if one.value]
-    names = ["".join(word.capitalize() for word in one.name.split("_")) for one in members]
-    lines = ["//! What the functions return: one number for each error of the driver, and for each misuse of a function.", "//!",
-             "//! Made by `tools/c/emit` from the table of the interface. Do not edit.", "", "use core::ffi::CStr;", "",
-             "/// The version of this package, as the header's `U16550_VERSION`.", f'pub const VERSION: &CStr = c"{version}";', "",
-             "/// Why a call did not do what it is for. Numbers of misuses are negative.", "#[derive(Clone, Copy)]", "#[repr(i32)]",
-             "pub enum Failure {", *(f"    {name} = {one.value}," for name, one in zip(names, members)), "}", "", "impl Failure {",
-             f"    pub const ALL: [Self; {len(names)}] = [", *(f"        Self::{name}," for name in names), "    ];", "",
-             "    pub const fn text(self) -> &'static CStr {", "        match self {"]
-    for name, one in zip(names, members):
-        line = f'            Self::{name} => c"{one.text}",'
-        lines += [line] if len(line) <= c.WIDTH else [f"            Self::{name} => {{", f'                c"{one.text}"', "            }"]
-    return "\n".join([*lines, "        }", "    }", "}", ""])
+    return LICENCE + filled(template, number, kept, told)

@@ -55,8 +55,6 @@ class Struct:
     name: str
     about: str
     members: list
-    # What the library of Rust and this one lay out in the same way: sizeof in bytes, or in C.
-    size: str = ""
 
 
 @dataclasses.dataclass(frozen=True)
