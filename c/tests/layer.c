@@ -315,10 +315,10 @@ static void notes_at_a_place(void)
     struct u16550_io io;
     uint8_t noted[8], value;
     ready();
-    d.base = 0x1000;
+    d.base = 0x1003;
     d.stride = 4;
     io = device_io(&d);
-    OK(u16550_new_mmio(&uart, &io, 0x1000, 4));
+    OK(u16550_new_mmio(&uart, &io, 0x1003, 4));
     OK(u16550_note_errors(&uart, &notes, noted, sizeof noted));
     d.registers[SPR] = 0x37;
     OK(u16550_spr(&uart, &value));
