@@ -63,6 +63,7 @@ FIRST = [
     Command(".ci/bill --check", always=True),
     Command(".ci/sizes --check", always=True),
     Command(".ci/cases", always=True),
+    Command("tools/c/cases", always=True),
     Command("tools/eraser/erase check", without=[*PAGES, *PROOFS]),
 ]
 # What cargo alone builds is made of the erased crates, and of no source in Rattle. The READMEs of those are read.

@@ -533,7 +533,7 @@ def set_text(one: Set) -> str:
         return f"{declared(one.to.of, to)} = {text(value)}"
     if isinstance(value, Binary) and value.operator not in COMPARISONS | LOGICAL and text(value.left) == to:
         if value.operator in "+-" and isinstance(value.right, Literal) and value.right.value == 1:
-            return f"{to}{value.operator * 2}"
+            return f"{at_level(one.to, PRIMARY)}{value.operator * 2}"
         return f"{to} {value.operator}= {text(value.right)}"
     return f"{to} = {text(value)}"
 
