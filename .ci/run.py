@@ -63,6 +63,7 @@ FIRST = [
     Command(".ci/bill --check", always=True),
     Command(".ci/sizes --check", always=True),
     Command(".ci/cases", always=True),
+    Command("tools/c/cases", always=True),
     Command("tools/eraser/erase check", without=[*PAGES, *PROOFS]),
 ]
 # What cargo alone builds is made of the erased crates, and of no source in Rattle. The READMEs of those are read.
@@ -70,7 +71,7 @@ OF_RUST = [*PAGES, "crates/*", "bench/*", "tools/*"]
 # The page is made of the erased crates, the examples and what is by hand.
 OF_THE_PAGE = [*PAGES, *PROOFS, "crates/*", "bench/*", "tools/*", "c/*"]
 READMES = [*C_PAGES, "README.md", "*/README.md", "*/COMPAT.md"]
-# What users of these files have: how they are installed, the page, and what they cost beside the library of Rust.
+# What users of these files have: how they are installed, their tests, the page, and what they cost.
 OF_USERS_OF_C = [*PAGES, "crates/*", "bench/*", "tools/eraser/*", "integration/*", "examples/*"]
 
 
@@ -118,7 +119,11 @@ COMMANDS = [
     beside("integration/c-kernels", without=OF_RUST, needs="compilers and emulators of its boards"),
     beside("integration/census", without=OF_RUST, but=["docs/CHIPS.md"]),
     beside("integration/boot-loaders u-boot", without=OF_RUST, needs="sources of U-Boot"),
-    beside("integration/c", without=OF_USERS_OF_C, but=["docs/C.md", "integration/apt", "integration/c", "bench/callbacks.c"]),
+    beside(
+        "integration/c",
+        without=OF_USERS_OF_C,
+        but=["docs/C.md", "docs/C_INTERRUPTS.md", "integration/apt", "integration/c", "bench/callbacks.c", "bench/README.md"],
+    ),
     # It waits for the libraries below alone, and so runs beside what `rt ci` does last: that proves this crate too, and does not build it.
     Command(C, after=OF_C, always=True),
     # This one waits for all of `rt ci`, which removes what it finds of a library for C.

@@ -1,5 +1,5 @@
 /*
- * callbacks.c - calls the library for C with callbacks, for measure-callbacks.sh to count.
+ * callbacks.c - calls the driver in C with callbacks, for tools/c/measure to count.
  *
  * usage: callbacks BODY COUNT
  *
@@ -30,11 +30,6 @@ static void store(void *context, uintptr_t offset, uint8_t value)
     (void)context;
     if (offset != LSR && offset != ISR)
         cells[offset] = value;
-}
-
-void u16550_panic(void)
-{
-    abort();
 }
 
 static int init(size_t count)

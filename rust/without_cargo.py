@@ -6,24 +6,33 @@ PACKAGE is the folder of the package, as rust/uart_16550. The libraries come int
 `--target x86_64-unknown-none -C panic=abort`. With `--metadata` nothing is compiled to machine code. RUSTC names another compiler.
 Prints the options with which rustc compiles what uses the package. What a package depends on, and its features, are read in Cargo.toml.
 """
+from __future__ import annotations
+
 import argparse
 import os
 import pathlib
 import subprocess
 import sys
 import tomllib
+from collections.abc import Iterator, Sequence
+from typing import Any, TypeAlias
+
+
+# The packages that are read, by their folders.
+Packages: TypeAlias = "dict[pathlib.Path, Package]"
 
 
 class Package:
     """A package and its features that are on."""
 
-    def __init__(self, folder, entries):
-        self.folder, self.entries, self.features = folder, entries, set()
+    def __init__(self, folder: pathlib.Path, entries: dict[str, Any]) -> None:
+        # What is in Cargo.toml.
+        self.folder, self.entries, self.features = folder, entries, set[str]()
 
-    def crate(self):
-        return self.entries.get("lib", {}).get("name", self.entries["package"]["name"]).replace("-", "_")
+    def crate(self) -> str:
+        return str(self.entries.get("lib", {}).get("name", self.entries["package"]["name"])).replace("-", "_")
 
-    def dependencies(self, packages):
+    def dependencies(self, packages: Packages) -> Iterator[tuple[str, Package]]:
         """What the package depends on: the name that it has here, and the package. One that is optional is used if a feature that is on
         asks for it. What has no path is not here."""
         lists = (self.entries.get("features", {}).get(one, []) for one in self.features)
@@ -37,13 +46,13 @@ class Package:
                 sys.exit(f"{self.folder}: the feature {name} needs a crate that is not here")
 
 
-def load(folder, packages):
+def load(folder: pathlib.Path, packages: Packages) -> Package:
     if folder not in packages:
         packages[folder] = Package(folder, tomllib.loads((folder / "Cargo.toml").read_text(encoding="utf-8")))
     return packages[folder]
 
 
-def turn_on(package, feature, packages):
+def turn_on(package: Package, feature: str, packages: Packages) -> None:
     """Turns a feature on, and those that come with it."""
     if feature in package.features:
         return
@@ -56,7 +65,7 @@ def turn_on(package, feature, packages):
             turn_on(package, more, packages)
 
 
-def in_order(package, packages, done):
+def in_order(package: Package, packages: Packages, done: list[Package]) -> list[Package]:
     """The package behind all that it depends on."""
     for _, other in package.dependencies(packages):
         in_order(other, packages, done)
@@ -65,9 +74,11 @@ def in_order(package, packages, done):
     return done
 
 
-def build(folder, target, features=(), options=(), metadata=False):
+def build(
+    folder: str | pathlib.Path, target: str | pathlib.Path, features: Sequence[str] = (), options: Sequence[str] = (), metadata: bool = False
+) -> list[str]:
     """Builds the package in this folder into another folder. Returns the options for what uses it."""
-    packages, target = {}, pathlib.Path(target)
+    packages, target = dict[pathlib.Path, Package](), pathlib.Path(target)
     package = load(pathlib.Path(folder).resolve(), packages)
     for feature in features:
         turn_on(package, feature, packages)
@@ -78,12 +89,12 @@ def build(folder, target, features=(), options=(), metadata=False):
         on = [f'--cfg=feature="{feature}"' for feature in sorted(one.features)]
         edition = one.entries["package"]["edition"]
         common = [os.environ.get("RUSTC", "rustc"), f"--edition={edition}", "--crate-type=rlib", f"--crate-name={one.crate()}"]
-        made = [*(["--emit=metadata"] if metadata else []), "-Aunexpected_cfgs", f"-Ldependency={target}", "-o", library[one]]
+        made = [*(["--emit=metadata"] if metadata else []), "-Aunexpected_cfgs", f"-Ldependency={target}", "-o", str(library[one])]
         subprocess.run([*common, *on, *externs, *options, *made, one.folder / "src/lib.rs"], check=True)
     return [f"--extern={package.crate()}={library[package]}", f"-Ldependency={target}"]
 
 
-def main():
+def main() -> None:
     words = argparse.ArgumentParser(prog="rust/without_cargo.py", description="Builds a package with rustc alone.")
     words.add_argument("package", help="the folder of the package, as rust/uart_16550")
     words.add_argument("folder", help="where the libraries come")

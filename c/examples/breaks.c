@@ -20,7 +20,7 @@ static void show_next(void)
     errors = first < arrived ? line[first].errors : 0;
 }
 
-static uint8_t U16550_CALL load(void *context, uintptr_t offset)
+static uint8_t load(void *context, uintptr_t offset)
 {
     uint8_t value = registers[offset];
     (void)context;
@@ -36,17 +36,10 @@ static uint8_t U16550_CALL load(void *context, uintptr_t offset)
     return value;
 }
 
-static void U16550_CALL store(void *context, uintptr_t offset, uint8_t value)
+static void store(void *context, uintptr_t offset, uint8_t value)
 {
     (void)context;
     registers[offset] = value;
-}
-
-/* Called by the library that is made of Rust alone. */
-void u16550_panic(void)
-{
-    for (;;)
-        ;
 }
 
 static struct u16550 uart;

@@ -17,20 +17,20 @@ SCRIPTS = ["names", "runner", "chip", "timeline", "script", "link", "recording",
 MOST_BYTES = 6000
 
 
-def texts(folder, ending):
+def texts(folder: pathlib.Path, ending: str) -> dict[str, str]:
     """The files of a folder with this ending, by their names without it."""
     files = sorted(folder.glob(f"*{ending}"))
     return {file.name.removesuffix(ending): file.read_text("ascii") for file in files if file.stat().st_size <= MOST_BYTES}
 
 
-def links():
+def links() -> dict[str, list[str]]:
     """The pairs of scripts for the two ends of a cable, by their names."""
     ends = texts(EXAMPLES / "link", ".script")
     names = [name.removesuffix("-left") for name in ends if name.endswith("-left")]
     return {name: [ends[f"{name}-left"], ends[f"{name}-right"]] for name in names}
 
 
-def without_names(module):
+def without_names(module: bytes) -> bytes:
     """A module of WebAssembly without its custom sections, which have the names of its functions."""
     kept, at = module[:8], 8
     while at < len(module):
@@ -48,16 +48,16 @@ def without_names(module):
     return kept
 
 
-def element(name, kind, text):
+def element(name: str, kind: str, text: str) -> str:
     """An element with data. A text that would end it is written in another way, which JSON and base64 allow."""
     return f'<script id="{name}" type="{kind}">{text}</script>'
 
 
-def in_json(value):
+def in_json(value: object) -> str:
     return json.dumps(value, separators=(",", ":")).replace("<", "\\u003c")
 
 
-def data(module):
+def data(module: bytes) -> list[str]:
     """What the page has beside its scripts."""
     # A fixed time, so that the same module makes the same page.
     packed = base64.b64encode(gzip.compress(without_names(module), 9, mtime=0)).decode()
@@ -70,7 +70,7 @@ def data(module):
     ]
 
 
-def page(module):
+def page(module: bytes) -> str:
     """The text of the page."""
     text = (HERE / "page/index.html").read_text(encoding="utf-8")
     scripts = [(HERE / f"page/{name}.js").read_text(encoding="utf-8") for name in SCRIPTS]
@@ -87,5 +87,4 @@ def page(module):
 
 
 if __name__ == "__main__":
-    sys.stdout.reconfigure(encoding="utf-8")
-    sys.stdout.write(page(pathlib.Path(sys.argv[1]).read_bytes()))
+    sys.stdout.buffer.write(page(pathlib.Path(sys.argv[1]).read_bytes()).encode())

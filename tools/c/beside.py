@@ -1,16 +1,22 @@
 """Each function of the C beside its own MIR: a program that calls both on the same choices, by the means of the comparison that the Rust
 crates have (tools/eraser/mir). The MIR is translated to Rust; on the side of C stand two functions for each type, which this writes: one
 makes a value of choices, and one shows a value as words. Both do it part by part in the order of the source, as the side of the MIR does."""
+from __future__ import annotations
+
 import pathlib
 import re
 import subprocess
+from collections.abc import Sequence
+from typing import NamedTuple
 
 import natives
+import syntax as c
 import values
+from library import Library, Written
 from listed import NOT_EMPTY
 from representation import VECTOR
-from translate import Translation, Unknown
-from tree import DEVICE, MEMORY, OF_CALLER, PORTS
+from translate import Dictionary, Native, Translation, Type, Unknown
+from tree import DEVICE, MEMORY, OF_CALLER, PORTS, Key
 
 FOLDER = pathlib.Path(__file__).resolve().parent
 HEADER = FOLDER.parent.parent / "c"
@@ -23,10 +29,14 @@ USR = 31
 QUEUE = "uart_ring::queue::ByteQueue"
 KEPT = "uart_design_ware::kept::KeptCharacters"
 # When a call breaks a contract in a way that the MIR does not notice, as Rust code over its arguments.
-OUTSIDE = {"uart_kept_characters_keep": "a1.f1 >= 64", "uart_byte_queue_byte_at": "a2 >= a1.f2",
-           "uart_copy_with_errors": "a2.f2 < a1.f2", "uart_byte_queue_front_slices": "a2 > a1.f2",
-           "uart_byte_queue_receive_from": "a3 > a1.f0.f2 - a1.f2",
-           "uart_receive": "a3 > a2.len() as u64 || a4 > a2.len() as u64 - a3"}
+OUTSIDE = {
+    "uart_kept_characters_keep": "a1.f1 >= 64",
+    "uart_byte_queue_byte_at": "a2 >= a1.f2",
+    "uart_copy_with_errors": "a2.f2 < a1.f2",
+    "uart_byte_queue_front_slices": "a2 > a1.f2",
+    "uart_byte_queue_receive_from": "a3 > a1.f0.f2 - a1.f2",
+    "uart_receive": "a3 > a2.len() as u64 || a4 > a2.len() as u64 - a3",
+}
 HEAD_OF_C = """
 #include <stdbool.h>
 #include <stddef.h>
@@ -103,22 +113,26 @@ static struct u16550_device beside_device(void)
 HEAD_OF_RUST = "#![allow(warnings, clippy::all)]\npub mod run;\npub mod mir;\npub mod numbers;\n"
 
 
-def line_method(name, arguments, result):
+def called(arguments: list[str], result: str, call: str) -> Native:
+    """What calls a function of the comparison."""
+    return lambda translation, types: (arguments, result, f"crate::run::{call}")
+
+
+def line_method(name: str, arguments: list[str], result: str) -> Native:
     """A method of the ports of a line, of which the comparison says what they do."""
     given = ", ".join(f"a{order}" for order in range(2, len(arguments) + 1))
-    return lambda translation, types: (arguments, result, f"crate::run::{name}({given})")
+    return called(arguments, result, f"{name}({given})")
 
 
 NATIVES = natives.NATIVES | {
-    ("of a device: uart_design_ware::registers::DesignWareRegisters", 0):
-        lambda translation, types: (["P"], "u8", f"crate::run::read({USR}, crate::run::REGISTERS)"),
+    ("of a device: uart_design_ware::registers::DesignWareRegisters", 0): called(["P"], "u8", f"read({USR}, crate::run::REGISTERS)"),
     ("of a device: uart_ring::line::LinePorts", 0): line_method("number_of_ports", ["P"], "u64"),
     ("of a device: uart_ring::line::LinePorts", 1): line_method("lower", ["P", "u64", "u64", "u32"], "bool"),
     ("of a device: uart_ring::line::LinePorts", 2): line_method("raise", ["P", "u64"], "()"),
 }
 
 
-def of_mir(of):
+def of_mir(of: Type) -> Type:
     """A type as the translation to Rust has it: a reference does not say whether what it is to may change."""
     if not isinstance(of, tuple):
         return of
@@ -127,9 +141,21 @@ def of_mir(of):
     return tuple(of_mir(one) for one in of)
 
 
-def dictionary_of_mir(one):
+def dictionary_of_mir(one: Dictionary) -> Dictionary:
     name, types, inner = one
     return (name.replace(OF_CALLER, "of a device: "), of_mir(types), tuple(map(dictionary_of_mir, inner)))
+
+
+class Argument(NamedTuple):
+    """One argument: the statements of C that make it, what is passed, what is shown behind the call; and the same of the MIR."""
+
+    made: str
+    # None is what the C cannot have.
+    passed: Sequence[str | None]
+    shown: str
+    made_of_mir: str
+    passed_of_mir: str
+    shown_of_mir: str
 
 
 class Beside:
@@ -138,11 +164,11 @@ class Beside:
     # Where in the C what is by hand begins, which nothing here calls; what stands in front of the C, and what it calls.
     by_hand, before, called_by_it = BY_HAND, "", CALLED_BY_DRIVER
 
-    def __init__(self, library):
+    def __init__(self, library: Library) -> None:
         self.library, self.types = library, library.types
         self.translation = Translation(library.forest.program, NATIVES, library.forest.own)
-        self.makers, self.showers, self.texts, self.calls = {}, {}, [], []
-        self.compared, self.left = [], {}
+        self.makers, self.showers, self.texts, self.calls = dict[Type, str](), dict[Type, str](), list[str](), list[str]()
+        self.compared, self.left = list[str](), dict[str, str]()
         called = self.called()
         for key, written in library.functions.items():
             if written is None or written.name not in called or written.name in self.compared:
@@ -156,21 +182,21 @@ class Beside:
         if self.translation.unknown:
             raise SystemExit(f"compare: not translated: {self.translation.unknown[:3]}")
 
-    def called(self):
+    def called(self) -> set[str]:
         """The names of the functions that the C has."""
         return {one.name for one in self.library.called()}
 
-    def fields(self, of):
+    def fields(self, of: Type) -> list[tuple[str, Type]]:
         """The names and types of the members that a struct has in C."""
         return self.types.fields(of)
 
-    def otherwise(self, found):
+    def otherwise(self, found: list[int]) -> dict[str, tuple[str, str]]:
         """How the side of the MIR makes and shows types of which the C has less, as `values.OF_MIR`. `found` are the numbers that are tried."""
         return {}
 
     # Values on the side of C.
 
-    def made_at(self, of, at):
+    def made_at(self, of: Type, at: str) -> str:
         """The statement that makes a value at this place."""
         if self.types.is_unit(of):
             return ""
@@ -181,7 +207,7 @@ class Beside:
             self.texts.append(f"static void {self.makers[of]}({made} *at)\n{{\n    memset(at, 0, sizeof at[0]);\n{text}}}\n")
         return f"{self.makers[of]}(&{at});\n"
 
-    def shown_at(self, of, at):
+    def shown_at(self, of: Type, at: str) -> str:
         """The statement that shows the value at this place."""
         if self.types.is_unit(of):
             return ""
@@ -191,11 +217,11 @@ class Beside:
             self.texts.append(f"static void {self.showers[of]}(const {self.types.c(of).text()} *at)\n{{\n    (void)at;\n{text}}}\n")
         return f"{self.showers[of]}(&{at});\n"
 
-    def first(self, of):
+    def first(self, of: Type) -> int:
         """The number of the first variant in C."""
         return 1 if self.types.is_error(of) else 0
 
-    def make(self, of, at):
+    def make(self, of: Type, at: str) -> str:
         kind = self.types.kind(of)
         word = kind.kind
         if of[0] == "Named" and of[1] == QUEUE:
@@ -211,19 +237,18 @@ class Beside:
             return f"{at} = beside_byte();\n" if of[1] == 8 else f"{at} = (uint{of[1]}_t)beside_number({of[1]});\n"
         if word == "wrapper":
             least = f"if ({at} == 0)\n {at} = 1;\n" if of[0] == "Named" and "nonzero::NonZero" in of[1] else ""
-            return self.make(kind.parts[1], at) + least
+            return self.make(kind.value, at) + least
         if word == "device":
             if of != DEVICE:
                 raise Unknown(f"a value of {of[1]}")
             return f"{at} = beside_device();\n"
         if word == "option":
-            inner, tag, flag, value = kind.parts
+            inner, tag, flag, value = kind.value, kind.full, kind.flag, kind.member
             if self.types.is_unit(inner):
                 return f"{at} = beside_pick(2) == {tag};\n"
             return f"{at}.{flag} = beside_pick(2) == {tag};\nif ({at}.{flag}) {{\n{self.made_at(inner, f'{at}.{value}')}}}\n"
         if word == "enum":
-            count = len(self.types.variants(of))
-            return f"{at} = ({self.types.c(of).text()})(beside_pick({count}) + {self.first(of)});\n"
+            return f"{at} = ({self.types.c(of).text()})(beside_pick({len(self.types.variants(of))}) + {self.first(of)});\n"
         if word == "tagged":
             return self.make_tagged(of, at)
         if word == "array":
@@ -233,29 +258,34 @@ class Beside:
             return "".join(self.made_at(one, f"{at}.{name}") for name, one in self.fields(of))
         raise Unknown(f"a value of a type that is {word}")
 
-    def make_tagged(self, of, at):
+    def make_tagged(self, of: Type, at: str) -> str:
         cases, tags = "", self.types.tag(of).text()
         for tag, (_, _, part) in enumerate(self.types.variants(of)):
-            parts = "".join(self.made_at(one, f"{at}.{self.types.part_name(of, tag, order)}") for order, one in enumerate(part)
-                            if not self.types.is_unit(one))
+            parts = "".join(
+                self.made_at(one, f"{at}.{self.types.part_name(of, tag, order)}") for order, one in enumerate(part) if not self.types.is_unit(one)
+            )
             cases += f"case {tag}:\n{parts}break;\n"
         count = len(self.types.variants(of))
         picked = f"uint64_t tag = beside_pick({count});\n{at}.kind = ({tags})(tag + {self.first(of)});\n"
         return f"{picked}switch (tag) {{\n{cases}default: break;\n}}\n"
 
-    def make_queue(self, of):
+    def make_queue(self, of: Type) -> str:
         (cells, _), (front, _), (count, _) = self.types.fields(of)
-        return (f"uint8_t bytes[64];\nbeside_queue(&at->{cells}.capacity, &at->{front}, &at->{count}, bytes);\n"
-                f"at->{cells}.len = at->{cells}.capacity;\nat->{cells}.data = beside_memory(at->{cells}.capacity);\n"
-                f"for (size_t i = 0; i < at->{count}; i++)\n at->{cells}.data[(at->{front} + i) % at->{cells}.len] = bytes[i];\n")
+        return (
+            f"uint8_t bytes[64];\nbeside_queue(&at->{cells}.capacity, &at->{front}, &at->{count}, bytes);\n"
+            f"at->{cells}.len = at->{cells}.capacity;\nat->{cells}.data = beside_memory(at->{cells}.capacity);\n"
+            f"for (size_t i = 0; i < at->{count}; i++)\n at->{cells}.data[(at->{front} + i) % at->{cells}.len] = bytes[i];\n"
+        )
 
-    def show(self, of, at):
+    def show(self, of: Type, at: str) -> str:
         kind = self.types.kind(of)
         word = kind.kind
         if of[0] == "Named" and of[1] == QUEUE:
             (cells, _), (front, _), (count, _) = self.types.fields(of)
-            return (f"beside_show({at}.{cells}.len);\nbeside_show({at}.{count});\nfor (size_t i = 0; i < {at}.{count}; i++)\n"
-                    f" beside_show({at}.{cells}.data[({at}.{front} + i) % {at}.{cells}.len]);\n")
+            return (
+                f"beside_show({at}.{cells}.len);\nbeside_show({at}.{count});\nfor (size_t i = 0; i < {at}.{count}; i++)\n"
+                f" beside_show({at}.{cells}.data[({at}.{front} + i) % {at}.{cells}.len]);\n"
+            )
         if of[0] == "Named" and of[1] == KEPT:
             (cells, array), (count, _) = self.types.fields(of)
             shown = self.shown_at(array[1], f"{at}.{cells}.bytes[i]")
@@ -265,21 +295,21 @@ class Beside:
         if word in ("bool", "number"):
             return f"beside_show((uint64_t){at});\n"
         if word == "wrapper":
-            return self.show(kind.parts[1], at)
+            return self.show(kind.value, at)
         if word == "device":
             return ""
         if word == "option":
-            inner, tag, flag, value = kind.parts
+            inner, tag, flag, value = kind.value, kind.full, kind.flag, kind.member
             if self.types.is_unit(inner):
                 return f"beside_show({at} ? {tag} : {1 - tag});\n"
             return f"beside_show({at}.{flag} ? {tag} : {1 - tag});\nif ({at}.{flag}) {{\n{self.shown_at(inner, f'{at}.{value}')}}}\n"
         if word == "nullable":
-            return f"beside_show({at} != NULL);\nif ({at} != NULL) {{\n{self.shown_at(kind.parts[0][1], f'(*{at})')}}}\n"
+            return f"beside_show({at} != NULL);\nif ({at} != NULL) {{\n{self.shown_at(kind.value[1], f'(*{at})')}}}\n"
         if word == "status":
-            fails = self.is_error(kind.parts[0], at)
-            return f"beside_show({fails});\nif ({fails}) {{\n{self.shown_at(kind.parts[0], at)}}}\n"
+            fails = self.is_error(kind.error, at)
+            return f"beside_show({fails});\nif ({fails}) {{\n{self.shown_at(kind.error, at)}}}\n"
         if word in ("outcome", "either"):
-            value, error = kind.parts
+            value, error = kind.value, kind.error
             fails = f"{at}.is_error" if word == "either" else self.is_error(error, f"{at}.error")
             good, bad = self.shown_at(value, f"{at}.value"), self.shown_at(error, f"{at}.error")
             return f"beside_show({fails});\nif ({fails}) {{\n{bad}}} else {{\n{good}}}\n"
@@ -288,8 +318,11 @@ class Beside:
         if word == "tagged":
             cases = ""
             for tag, (_, _, part) in enumerate(self.types.variants(of)):
-                parts = "".join(self.shown_at(one, f"{at}.{self.types.part_name(of, tag, order)}") for order, one in enumerate(part)
-                                if not self.types.is_unit(one))
+                parts = "".join(
+                    self.shown_at(one, f"{at}.{self.types.part_name(of, tag, order)}")
+                    for order, one in enumerate(part)
+                    if not self.types.is_unit(one)
+                )
                 cases += f"case {tag + self.first(of)}:\n{parts}break;\n"
             return f"beside_show((uint64_t){at}.kind - {self.first(of)});\nswitch ((unsigned){at}.kind) {{\n{cases}default: break;\n}}\n"
         if word == "array":
@@ -300,43 +333,42 @@ class Beside:
             return "".join(self.shown_at(one, f"{at}.{name}") for name, one in self.fields(of))
         raise Unknown(f"a result of a type that is {word}")
 
-    def is_error(self, of, at):
+    def is_error(self, of: Type, at: str) -> str:
         none = self.types.constant(of, None)
         return f"{at} != {none}" if self.types.kind(of).kind == "enum" else f"{at}.kind != {none}"
 
     # Arguments and calls.
 
-    def argument(self, order, of, least):
-        """One argument: the statements of C that make it, what is passed, what is shown behind the call; and the same of the MIR."""
+    def argument(self, order: int, of: Type, least: int) -> Argument:
         rust = self.translation.rust_outside
         mine = of_mir(of)
         if of == MEMORY or of[0] == "Ref" and of[1] == MEMORY:
             made = f"struct uart_memory a{order};\na{order}.len = beside_memory_of();\na{order}.data = NULL;\n"
             of_rust = f"crate::run::memory_of(choices); let mut a{order}: {rust(mine)} = core::mem::zeroed();"
-            return made, [f"&a{order}"], "", of_rust, f"a{order}", ""
+            return Argument(made, [f"&a{order}"], "", of_rust, f"a{order}", "")
         if self.types.is_unit(of):
-            return "", [], "", f"let mut a{order}: {rust(mine)} = core::mem::zeroed();", f"a{order}", ""
+            return Argument("", [], "", f"let mut a{order}: {rust(mine)} = core::mem::zeroed();", f"a{order}", "")
         if of[0] == "Struct" and of[1] == "&[]":
             return self.slice_argument(order, of, least)
         if of == ("Ref", PORTS, True) or of == ("Ref", PORTS, False):
             ports = f"struct uart_line_ports a{order} = {{ NULL, 0 }};\n"
-            return ports, [f"&a{order}"], "", f"let mut a{order} = 0u64;", f"&raw mut a{order} as *mut u8", ""
+            return Argument(ports, [f"&a{order}"], "", f"let mut a{order} = 0u64;", f"&raw mut a{order} as *mut u8", "")
         inner, is_reference = (of[1], True) if of[0] == "Ref" else (of, False)
         if self.types.is_unit(inner):
             raise Unknown("a reference to nothing")
         made = f"{self.types.c(inner).text()} a{order};\n{self.made_at(inner, f'a{order}')}"
         of_rust = f"let mut a{order}: {rust(of_mir(inner))} = Value::make(choices);"
         if not is_reference:
-            return made, [f"a{order}"], "", of_rust, f"a{order}", ""
+            return Argument(made, [f"a{order}"], "", of_rust, f"a{order}", "")
         passed = f"a{order}.bytes" if self.types.kind(inner).kind == "array" else f"&a{order}"
         shown = self.shown_at(inner, f"a{order}")
-        return made, [passed], shown, of_rust, f"&raw mut a{order} as *mut u8", f"Value::show(&a{order}, &mut out);"
+        return Argument(made, [passed], shown, of_rust, f"&raw mut a{order} as *mut u8", f"Value::show(&a{order}, &mut out);")
 
-    def known_argument(self, order, of, value):
+    def known_argument(self, order: int, of: Type, value: c.Expression) -> Argument:
         """An argument that is one constant in each call, so that the C has no parameter for it."""
         raise Unknown(f"the argument {order} is known")
 
-    def slice_argument(self, order, of, least):
+    def slice_argument(self, order: int, of: Type, least: int) -> Argument:
         item, can_change = of[2][0][1], of[2][0][2]
         name, rest = self.translation.rust(of_mir(of)), self.translation.rest(of_mir(of))
         passed = f"crate::mir::{name} {{ f0: a{order}.as_mut_ptr() as *mut u8, f1: a{order}.len() as u64{rest} }}"
@@ -348,26 +380,29 @@ class Beside:
             made = f"uint8_t a{order}[BESIDE_MOST];\nsize_t n{order} = beside_bytes({least}, a{order});\n"
             mine = f"let mut a{order} = choices.bytes({least});"
         else:
-            made = (f"{name} a{order}[BESIDE_MOST];\nsize_t n{order} = beside_length({least});\n"
-                    f"for (size_t i = 0; i < n{order}; i++) {{\n{self.made_at(item, f'a{order}[i]')}}}\n")
+            made = (
+                f"{name} a{order}[BESIDE_MOST];\nsize_t n{order} = beside_length({least});\n"
+                f"for (size_t i = 0; i < n{order}; i++) {{\n{self.made_at(item, f'a{order}[i]')}}}\n"
+            )
             mine = f"let mut a{order}: Vec<{self.translation.rust_outside(of_mir(item))}> = choices.list({least});"
-        return made, [f"a{order}", f"n{order}"], shown, mine, passed, of_rust
+        return Argument(made, [f"a{order}", f"n{order}"], shown, mine, passed, of_rust)
 
-    def function(self, key, written):
+    def function(self, key: Key, written: Written) -> None:
         name, types, dictionaries = key
         forest = self.library.forest
         function = forest.program.functions[name]
         locals_ = [forest.type(one["ty"], types) for one in function["locals"][: function["params"] + 1]]
         least = 1 if name.split("::")[-1] in NOT_EMPTY else 0
-        listing, flat = [], []
+        listing, flat = list[Argument](), list[str | None]()
         for order, of in enumerate(locals_[1:], 1):
             known = self.library.known.get(key, {}).get(len(flat))
             listing.append(self.argument(order, of, least) if known is None else self.known_argument(order, of, known))
-            flat += listing[-1][1]
+            flat += listing[-1].passed
         if len(flat) != len(written.given):
             raise Unknown(f"{len(flat)} arguments, and {len(written.given)} parameters")
-        passed = [one for one, parameter in zip(flat, written.given) if parameter in written.parameters]
-        if None in passed:
+        wanted = [one for one, parameter in zip(flat, written.given) if parameter in written.parameters]
+        passed = [one for one in wanted if one is not None]
+        if len(passed) < len(wanted):
             raise Unknown("an argument that the C cannot have")
         instance = self.translation.instance(name, of_mir(types), tuple(map(dictionary_of_mir, dictionaries)))
         call, result = f"{written.name}({', '.join(passed)})", locals_[0]
@@ -380,75 +415,82 @@ class Beside:
             call, shown = f"{self.types.c(result).text()} result = {call};\n", self.shown_at(result[1], "(*result)")
         else:
             call, shown = f"{self.types.c(result).text()} result = {call};\n", self.shown_at(result, "result")
-        body = "".join(one[0] for one in listing) + call + shown + "".join(one[2] for one in listing)
+        body = "".join(one.made for one in listing) + call + shown + "".join(one.shown for one in listing)
         self.texts.append(f"void beside_call_{number}(void);\nvoid beside_call_{number}(void)\n{{\n{body}}}\n")
         of_result = "Value::show(&result, &mut out);"
         if result[0] == "Ref":
             of_result = f"Value::show(&*(result as *const {self.translation.rust_outside(of_mir(result[1]))}), &mut out);"
-        made, given, behind = (" ".join(one[place] for one in listing) for place in (3, 4, 5))
-        given = ", ".join(one[4] for one in listing)
+        made, behind = " ".join(one.made_of_mir for one in listing), " ".join(one.shown_of_mir for one in listing)
+        given = ", ".join(one.passed_of_mir for one in listing)
         touches = "Device" if DEVICE in types or PORTS in types else "Nothing"
         outside = OUTSIDE.get(written.name)
         of_case = f"|choices| unsafe {{ {made} if {outside} {{ Of::NoWord }} else {{ Of::Contract }} }}" if outside else "|_| Of::Contract"
         self.calls.append(
             f'run.compare("{written.name}", With::{touches}, &[], {of_case}, |choices| unsafe {{ called(beside_call_{number}) }}, '
             f"|choices| unsafe {{ {made} let result = crate::mir::{instance}({given}); let mut out = Vec::new(); "
-            f"{of_result} {behind} out }});")
+            f"{of_result} {behind} out }});"
+        )
 
     # The program.
 
-    def of_c(self, source):
+    def of_c(self, source: str) -> str:
         """The text of C: the functions without what is by hand, and what calls each."""
         made = source.partition(self.by_hand)[0]
         # A part that a macro leaves out may go on in what is by hand.
         ends = "#endif\n" * (len(re.findall("^#if", made, re.M)) - len(re.findall("^#endif", made, re.M)))
         return HEAD_OF_C + self.before + made + ends + self.called_by_it + "\n".join(self.texts)
 
-    def of_rust(self, source):
+    def of_rust(self, source: str) -> dict[str, str]:
         """The texts of the files of Rust. Numbers that the C has are tried in each place of a number."""
         found = numbers(source)
         declared = "\n".join(f"fn beside_call_{number}();" for number in range(len(self.calls)))
         calls, texts = "\n".join(self.calls), values.of_mir(self.translation, self.otherwise(found))
-        root = (f'{HEAD_OF_RUST}use run::{{Choices, Of, Run, Value, With, called}};\nunsafe extern "C-unwind" {{ {declared} }}\n'
-                f"fn all(run: &mut Run) {{\n{calls}\n}}\n"
-                f'#[unsafe(no_mangle)]\nextern "C" fn beside_run() {{ run::run(all, {len(self.translation.places)}) }}\n')
+        root = (
+            f'{HEAD_OF_RUST}use run::{{Choices, Of, Run, Value, With, called}};\nunsafe extern "C-unwind" {{ {declared} }}\n'
+            f"fn all(run: &mut Run) {{\n{calls}\n}}\n"
+            f'#[unsafe(no_mangle)]\nextern "C" fn beside_run() {{ run::run(all, {len(self.translation.places)}) }}\n'
+        )
         listed = f"pub const NUMBERS: [u64; {len(found)}] = {found};\n"
-        return {"lib.rs": root, "numbers.rs": listed, "mir.rs": self.translation.module() + texts,
-                "run.rs": RUN.read_text(encoding="utf-8") + (FOLDER / "compared" / "beside.rs").read_text(encoding="ascii")}
+        return {
+            "lib.rs": root,
+            "numbers.rs": listed,
+            "mir.rs": self.translation.module() + texts,
+            "run.rs": RUN.read_text(encoding="utf-8") + (FOLDER / "compared" / "beside.rs").read_text(encoding="ascii"),
+        }
 
-    def build(self, source, folder):
+    def build(self, source: str, folder: pathlib.Path) -> str:
         """Builds the side of the MIR in a folder. Returns nothing, or what the compiler says."""
         folder.mkdir(exist_ok=True)
         for name, text in self.of_rust(source).items():
             (folder / name).write_text(text, encoding="utf-8")
-        return compiled(["rustc", "--edition", "2024", "--crate-type", "staticlib", "--crate-name", "beside", "-C", "opt-level=1", "-C",
-                         "overflow-checks=on", "-o", folder / "libbeside.a", folder / "lib.rs"])
+        words = "rustc --edition 2024 --crate-type staticlib --crate-name beside -C opt-level=1 -C overflow-checks=on -o".split()
+        return compiled([*words, folder / "libbeside.a", folder / "lib.rs"])
 
-    def link(self, source, folder, name):
+    def link(self, source: str, folder: pathlib.Path, name: str) -> tuple[pathlib.Path | None, str]:
         """Builds the program over this text of the C. Returns its path, or None and what the compiler says."""
         text, program = folder / f"{name}.c", folder / name
         text.write_text(self.of_c(source), encoding="ascii")
-        words = ["gcc", "-std=gnu99", "-O1", "-w", "-fexceptions", "-DUART_BY_SHIFTS", "-I", HEADER]
+        words = ["gcc", "-std=gnu99", "-O1", "-w", "-fexceptions", "-DUART_BY_SHIFTS", "-I", str(HEADER)]
         told = compiled([*words, text, folder / "libbeside.a", "-lpthread", "-ldl", "-lm", "-o", program])
         return (None, told) if told else (program, "")
 
 
-def numbers(source):
+def numbers(source: str) -> list[int]:
     """The numbers that are tried in each place of a number: those of the C, those next to them, and edges."""
     written = map(int, re.findall(r"\b\d+\b", source))
     return sorted({at for one in written for at in (one - 1, one, one + 1) if 0 <= at < 1 << 64} | EDGES)
 
 
-def compiled(words):
+def compiled(words: Sequence[str | pathlib.Path]) -> str:
     """Runs a compiler. Returns what it says if it fails."""
     done = subprocess.run([str(one) for one in words], capture_output=True, text=True, check=False)
     return done.stderr[-3000:] if done.returncode else ""
 
 
-def reports(printed):
+def reports(printed: str) -> dict[str, tuple[int, int, int, str]]:
     """What the program printed: for each function how many cases there were, how many were outside of its contract, how many differ, and
     the first that does."""
-    found = {}
+    found = dict[str, tuple[int, int, int, str]]()
     for line in printed.splitlines():
         word, *report = line.split("\t")
         if word == "compared":

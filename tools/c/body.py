@@ -1,15 +1,49 @@
 """One function of the MIR as C, statement by statement: what comes out is right and not yet pleasant. `passes` makes it so."""
+from __future__ import annotations
+
+import dataclasses
 import re
+from collections.abc import Callable, Sequence
+from typing import TYPE_CHECKING, Generic, TypeAlias, TypeVar
 
 import syntax as c
 from names import snake
-from representation import FEW, safe
-from translate import Unknown, head
-from tree import (OF_CALLER, Address, Aggregate, Assign, Block, Call, Exit, Int, Loop, Never, Nothing, One, Place, Repeat, Return, SizeOf, Static,
-                  Switch, Truth, Two, Webs, walk)
+from representation import FEW, Kind, safe
+from translate import Type, Unknown
+from tree import (
+    OF_CALLER,
+    Address,
+    Aggregate,
+    Assign,
+    Block,
+    Call,
+    Case,
+    Exit,
+    Int,
+    Key,
+    Loop,
+    Never,
+    Nothing,
+    One,
+    Operand,
+    Place,
+    Repeat,
+    Return,
+    SizeOf,
+    Statement,
+    Static,
+    Switch,
+    Truth,
+    Two,
+    Value,
+    Webs,
+    walk,
+)
 
-OPERATORS = {"Add": "+", "Sub": "-", "Mul": "*", "Div": "/", "Rem": "%", "Shl": "<<", "Shr": ">>", "And": "&", "Or": "|", "Xor": "^",
-             "Eq": "==", "Ne": "!=", "Lt": "<", "Le": "<="}
+if TYPE_CHECKING:
+    from library import Library
+
+OPERATORS = dict(zip("Add Sub Mul Div Rem Shl Shr And Or Xor Eq Ne Lt Le".split(), "+ - * / % << >> & | ^ == != < <=".split()))
 BRANCH = ("core::result::ResultTry::branch", "core::option::OptionTry::branch")
 NO_RESIDUAL = "core::option::OptionFromResidualNoValue::from_residual"
 FIRST_CHUNK = "core::slice::arrays::slice+T::first_chunk"
@@ -17,9 +51,10 @@ COPY_SLICE = "core::slice::edits::slice+T::copy_from_slice"
 SAME_ARRAYS = "core::cmp::arrays::ArrayPartialEq::eq"
 ROTATE = "core::slice::edits::slice+T::rotate_left"
 COPY_DOWN = "std_alloc::shifts::copy_down"
+OVER_A_SLICE = (FIRST_CHUNK, COPY_SLICE, ROTATE, COPY_DOWN)
 ALL_BITS = "bitflags::traits::Flags::all"
 # What is by hand in C, by the method of the MIR.
-OF_C = {
+OF_C: dict[str, tuple[str, c.Type]] = {
     f"{OF_CALLER}uart_spec::backend::Backend 0": ("uart_device_read", c.BYTE),
     f"{OF_CALLER}uart_spec::backend::Backend 1": ("uart_device_write", c.VOID),
     f"{OF_CALLER}uart_16550::patience::Patience 0": ("uart_patience_keep_waiting", c.BOOL),
@@ -34,83 +69,115 @@ FILLED = "std_alloc::vec::Vec::from_elem"
 OVER_SLICES = ("std_alloc::shifts::", "std::slices::")
 # Returns the range that it is given, if that is within: it is proved to be, where this is called.
 RANGE_WITHIN = "core::slice::ranges::range"
-NATIVE = {*BRANCH, RANGE_WITHIN, FILLED, NO_RESIDUAL, FIRST_CHUNK, COPY_SLICE, SAME_ARRAYS, ROTATE, COPY_DOWN, ALL_BITS}
+NATIVE = {*BRANCH, RANGE_WITHIN, FILLED, NO_RESIDUAL, SAME_ARRAYS, *OVER_A_SLICE, ALL_BITS}
 U64 = c.Width(False)
 # The parameters of functions of libraries whose sources are not read.
 PARAMETERS = {"std_alloc::shifts::copy_up": ("items", "from", "to", "count")}
 
 
-class Pair:
+Part = TypeVar("Part", c.Variable, c.Expression)
+
+
+@dataclasses.dataclass
+class Pair(Generic[Part]):
     """A slice: where it begins, and how long it is."""
 
-    def __init__(self, pointer, length):
-        self.pointer, self.length = pointer, length
+    pointer: Part
+    length: Part
 
 
+@dataclasses.dataclass
 class ArrayAt:
     """An array behind a pointer to its first item."""
 
-    def __init__(self, pointer, of):
-        self.pointer, self.meaning = pointer, of
+    pointer: c.Expression
+    meaning: Type
 
 
-def is_const(one):
-    """Whether a place is behind a pointer through which nothing is written."""
-    while isinstance(one, c.Field):
-        one = one.base
-    return isinstance(one, (c.Deref, c.Index)) and one.pointer.of.is_const
-
-
+@dataclasses.dataclass
 class Tag:
     """Which variant a value is of."""
 
-    def __init__(self, value, of):
-        self.value, self.meaning = value, of
+    value: c.Expression
+    meaning: Type
 
 
-def settle_copies(copies):
+# What a local of the MIR is in C, and what a value of it is. What has one value only is nothing.
+Local: TypeAlias = "c.Variable | Pair[c.Variable] | None"
+InC: TypeAlias = "c.Expression | Pair[c.Expression] | ArrayAt | Tag | None"
+
+
+def expression(one: InC) -> c.Expression:
+    """A value that is an expression of C."""
+    if one is None or isinstance(one, (Pair, ArrayAt, Tag)):
+        raise Unknown(f"a value that is no expression of C, but {type(one).__name__}")
+    return one
+
+
+def is_const(one: c.Expression) -> bool:
+    """Whether a place is behind a pointer through which nothing is written."""
+    while isinstance(one, c.Field):
+        one = one.base
+    return isinstance(one, (c.Deref, c.Index)) and isinstance(one.pointer.of, c.Pointer) and one.pointer.of.is_const
+
+
+def start_of(array: InC, item: c.Type) -> c.Expression:
+    """The pointer to the first item of an array."""
+    return array.pointer if isinstance(array, ArrayAt) else c.Field(expression(array), "bytes", c.Pointer(item))
+
+
+def settle_copies(copies: list[c.Set]) -> None:
     """Decides of numbers that are only copied whether they are sizes of memory. The MIR has no cast from `usize` to `u64`: it is a copy of one
     into the other. A number that is on neither side is no size if it can be, since 64 bits hold what any size does."""
     for wanted in (False, True, None):
         while any(joined(one, wanted) for one in copies):
             pass
     for one in copies:
-        if one.to.of.width.join(one.value.of.width):
+        to, value = widths_of(one)
+        if to.join(value):
             continue
-        if one.to.of.width.is_size:
+        if to.is_size:
             raise Unknown("a number of 64 bits that becomes a size of memory")
         one.value = c.Cast(one.to.of, one.value)
 
 
-def joined(copy, wanted):
+def widths_of(copy: c.Set) -> tuple[c.Width, c.Width]:
+    """What the numbers on both sides of a copy count."""
+    to, value = c.width_of(copy.to.of), c.width_of(copy.value.of)
+    if not to or not value:
+        raise Unknown("a copy of what is no number of 64 bits")
+    return to, value
+
+
+def joined(copy: c.Set, wanted: bool | None) -> bool:
     """Makes both sides of a copy what one of them is, if that is wanted and the other may be either. Returns whether it did."""
-    to, value = (one.of.width.root() for one in (copy.to, copy.value))
+    to, value = (one.root() for one in widths_of(copy))
     return to is not value and {to.decided, value.decided} == {wanted, None} and to.join(value)
 
 
 class Body:
-    def __init__(self, library, key):
+    def __init__(self, library: Library, key: Key) -> None:
         self.library, self.key = library, key
         self.types, self.source = library.types, library.source
         self.tree = library.forest.tree(key)
         Webs(self.tree).run()
         self.information = library.source.find(key[0])
-        self.variables, self.labels, self.copies = {}, 0, []
+        self.variables, self.labels, self.copies = dict[int, Local](), 0, list[c.Set]()
         self.single, self.changing = self.defined_once(), self.changed_in_part()
         self.result = self.declared_type(self.tree.locals[0], self.information.result if self.information else key[0])
         self.parameters = [self.parameter(order) for order in range(1, self.tree.params + 1)]
-        self.statements = self.list(self.tree.body, [])
+        self.statements = self.list_of(self.tree.body, [])
         settle_copies(self.copies)
 
-    def defined_once(self):
+    def defined_once(self) -> dict[int, Value | Call]:
         """The value, or the call, of each local that one assignment defines."""
-        found = {}
+        found = dict[int, list[Value | Call]]()
         for one in walk(self.tree.body):
             if isinstance(one, (Assign, Call)) and not one.place.steps:
                 found.setdefault(one.place.local, []).append(one.value if isinstance(one, Assign) else one)
         return {local: values[0] for local, values in found.items() if len(values) == 1}
 
-    def changed_in_part(self):
+    def changed_in_part(self) -> set[int]:
         """The locals of which a part is written, or that have an address by which one can be."""
         out = set()
         for one in walk(self.tree.body):
@@ -124,15 +191,15 @@ class Body:
 
     # Variables.
 
-    def declared_type(self, of, text):
+    def declared_type(self, of: Type, text: str) -> c.Type:
         """The type of a parameter or a result, of which this is the text in the source, or the name of the library's function."""
         is_size = re.search(r"\busize\b", text or "") is not None and not re.search(r"\bu64\b", text or "") or (text or "").startswith(OVER_SLICES)
         made = self.types.c(of, is_size)
-        if isinstance(made, c.Number) and made.bits == 64 and made.width.root().decided is None:
+        if isinstance(made, c.Number) and made.bits == 64 and made.width and made.width.root().decided is None:
             made.width = c.SIZE if is_size else U64
         return made
 
-    def parameter(self, order):
+    def parameter(self, order: int) -> Local:
         of = self.tree.locals[order]
         info = self.information
         given = PARAMETERS.get(self.key[0], ())
@@ -146,42 +213,44 @@ class Body:
         if kind.kind == "unit":
             self.variables[order] = None
         elif kind.kind == "slice":
-            self.variables[order] = Pair(c.Variable(self.types.pointer(kind.parts[0]), name, True, order),
-                                         c.Variable(c.Number(64, c.SIZE), f"{name}_len", True, order))
+            self.variables[order] = Pair(
+                c.Variable(self.types.pointer(kind.value), name, True, order), c.Variable(c.Number(64, c.SIZE), f"{name}_len", True, order)
+            )
         else:
             self.variables[order] = c.Variable(self.declared_type(of, text), name, True, order, of)
         return self.variables[order]
 
-    def name_of_self(self, of):
+    def name_of_self(self, of: Type) -> str:
         while of[0] == "Ref":
             of = of[1]
         name = of[1].split("::")[-1] if of[0] == "Named" else "self"
         return {"Uart16550": "uart", "Uart16550Ring": "ring", "Uart16550Tty": "tty"}.get(name, snake(name))
 
-    def variable(self, local):
+    def variable(self, local: int) -> Local:
         if local not in self.variables:
             self.variables[local] = self.new_variable(local)
         return self.variables[local]
 
-    def new_variable(self, local):
+    def new_variable(self, local: int) -> Local:
         of = self.tree.locals[local]
         kind = self.types.kind(of)
         if kind.kind == "unit":
             return None
         if kind.kind == "slice":
-            return Pair(c.Variable(self.types.pointer(kind.parts[0]), None, False, local),
-                c.Variable(c.Number(64, c.SIZE), None, False, local, hint="len"))
+            return Pair(
+                c.Variable(self.types.pointer(kind.value), None, False, local), c.Variable(c.Number(64, c.SIZE), None, False, local, hint="len")
+            )
         if of == "Ptr":
             return c.Variable(c.Pointer(self.item_behind(local)), None, False, local, of)
         return c.Variable(self.result if local == 0 else self.types.c(of), None, False, local, of)
 
-    def item_behind(self, local):
+    def item_behind(self, local: int) -> c.Type:
         """The type of what a bare pointer is to: its base is a pointer with a type."""
         value = self.single.get(local)
         if isinstance(value, Two) and value.operation == "Offset":
-            return self.operand(value.first).of.to
+            return c.pointed(expression(self.operand(value.first)).of)
         if isinstance(value, Place):
-            return self.load(value).of.to
+            return c.pointed(expression(self.load(value)).of)
         if isinstance(value, Address):
             of = self.place(value.place)[1]
             return self.types.c(of[1] if of[0] == "Array" else of)
@@ -189,7 +258,7 @@ class Body:
 
     # Operands.
 
-    def operand(self, one):
+    def operand(self, one: Operand | Repeat) -> InC:
         if isinstance(one, Place):
             return self.load(one)
         if isinstance(one, Int):
@@ -202,16 +271,16 @@ class Body:
             return c.Word(f"sizeof({self.types.c(one.of).text()})", c.Number(64, c.SIZE))
         raise Unknown(f"an operand {one}")
 
-    def load(self, place):
+    def load(self, place: Place) -> InC:
         return self.place(place)[0]
 
-    def start(self, local):
+    def start(self, local: int) -> InC:
         found = self.variable(local)
         if found is None:
             return None
         return Pair(c.Var(found.pointer), c.Var(found.length)) if isinstance(found, Pair) else c.Var(found)
 
-    def place(self, place):
+    def place(self, place: Place) -> tuple[InC, Type]:
         """What the steps of a place lead to, and its type."""
         one, of, steps = self.start(place.local), self.tree.locals[place.local], list(place.steps)
         while steps:
@@ -227,26 +296,26 @@ class Body:
                 raise Unknown(f"a step {word}")
         return one, of
 
-    def behind(self, one, of):
+    def behind(self, one: InC, of: Type) -> InC:
         if of[0] == "Array":
-            return ArrayAt(one, of)
+            return ArrayAt(expression(one), of)
         if self.types.is_unit(of):
             return None
-        return self.with_slice(c.Deref(one), of)
+        return self.with_slice(c.Deref(expression(one)), of)
 
-    def with_slice(self, one, of):
+    def with_slice(self, one: c.Expression, of: Type) -> InC:
         """A slice that is in a struct, as a pair."""
         if self.types.kind(of).kind != "slice":
             return one
-        pointer = self.types.pointer(self.types.kind(of).parts[0])
+        pointer = self.types.pointer(self.types.kind(of).value)
         return Pair(c.Field(one, "data", pointer), c.Field(one, "len", c.Number(64, c.SIZE)))
 
-    def part(self, one, of, order):
+    def part(self, one: InC, of: Type, order: int) -> tuple[InC, Type]:
         kind = self.types.kind(of)
-        if kind.kind == "slice" and len(kind.parts) > 1:
-            return one, kind.parts[1]
-        if kind.kind == "slice":
-            return (one.pointer, kind.parts[0]) if order == 0 else (one.length, ("Int", 64))
+        if kind.kind == "slice" and kind.inside is not None:
+            return one, kind.inside
+        if isinstance(one, Pair):
+            return (one.pointer, kind.value) if order == 0 else (one.length, ("Int", 64))
         if kind.kind == "unit":
             return None, self.types.fields(of)[order][1]
         name, inner = self.types.fields(of)[order]
@@ -255,44 +324,46 @@ class Body:
         if kind.kind == "wrapper":
             return one, inner
         if self.types.is_array_of_header(of, inner):
-            return ArrayAt(c.Field(one, name, c.Pointer(self.types.c(inner[1]), is_const(one))), inner), inner
+            whole = expression(one)
+            return ArrayAt(c.Field(whole, name, c.Pointer(self.types.c(inner[1]), is_const(whole))), inner), inner
         made = self.types.c(inner, self.types.is_size(of, order))
         if isinstance(made, c.Number) and made.bits == 64 and kind.kind != "wrapper":
             made.width = None if self.types.is_of_library(of) else c.SIZE if self.types.is_size(of, order) else U64
         if inner == "Ptr":
             made = c.Pointer(c.BYTE)
-        return self.with_slice(c.Field(one, name, made), inner), inner
+        return self.with_slice(c.Field(expression(one), name, made), inner), inner
 
-    def payload(self, one, name, of, whole):
+    def payload(self, one: InC, name: str, of: Type, whole: int | None) -> InC:
         """A part of a value of a type that any type may be a part of: its width is not known from there, unless the value is all of a local
         that a function of ours has returned, and that says of its numbers that they are no sizes."""
         made = self.types.c(of)
         if isinstance(made, c.Number) and self.types.kind(of).kind == "number":
             made = c.Number(made.bits, U64 if made.bits == 64 and self.has_no_size(whole) else None)
-        return self.with_slice(c.Field(one, name, made), of)
+        return self.with_slice(c.Field(expression(one), name, made), of)
 
-    def has_no_size(self, local):
+    def has_no_size(self, local: int | None) -> bool:
         """Whether a local is what a function of ours has returned, in which the source has `u64` and no `usize`."""
-        value = self.single.get(local)
+        value = self.single.get(local) if local is not None else None
         while isinstance(value, Place) and not value.steps or isinstance(value, Call) and value.function[0] in BRANCH:
-            value = self.single.get((value if isinstance(value, Place) else value.arguments[0]).local)
+            copied = value if isinstance(value, Place) else value.arguments[0]
+            value = self.single.get(copied.local) if isinstance(copied, Place) else None
         info = self.source.find(value.function[0]) if isinstance(value, Call) else None
         return info is not None and "u64" in re.findall(r"\w+", info.result or "") and "usize" not in info.result
 
-    def part_of_variant(self, one, of, tag, order, whole):
+    def part_of_variant(self, one: InC, of: Type, tag: int, order: int, whole: int | None) -> tuple[InC, Type]:
         kind, shown = self.types.kind(of), of
         if of[0] == "Named" and of[1] == "core::ops::ControlFlow":
             shown = self.types.same_as(of)
         if order == 0:
-            return Tag(one, of), "Tag"
+            return Tag(expression(one), of), "Tag"
         _, parts = self.types.shape(of)
         inner = parts[tag][order - 1]
         if self.types.is_unit(inner):
             return None, inner
         if kind.kind == "option":
-            if tag != kind.parts[1]:
+            if tag != kind.full:
                 return None, inner
-            return self.payload(one, kind.parts[3], inner, whole), inner
+            return self.payload(one, kind.member, inner, whole), inner
         if kind.kind == "nullable" or kind.kind == "status":
             return one, inner
         if kind.kind in ("outcome", "either"):
@@ -303,7 +374,7 @@ class Body:
 
     # Values.
 
-    def value(self, value, of):
+    def value(self, value: Value, of: Type) -> InC:
         """A value to be put into a place of this type of the MIR."""
         if isinstance(value, Address):
             return self.address(value.place)
@@ -317,22 +388,20 @@ class Body:
             return self.library.static(value, self.key[0])
         return self.named(self.operand(value), of)
 
-    def named(self, one, of):
+    def named(self, one: InC, of: Type) -> InC:
         """A number with the names of its bits, if it is of a register."""
         return self.library.with_names(one, of) if isinstance(one, c.Literal) else one
 
-    def address(self, place):
+    def address(self, place: Place) -> c.Expression | None:
         one, of = self.place(place)
-        if isinstance(one, ArrayAt):
-            return one.pointer
         if one is None:
             return None
-        if of[0] == "Array":
-            return c.Field(one, "bytes", c.Pointer(self.types.c(of[1])))
-        return c.AddressOf(one, c.Pointer(self.types.c(of)))
+        if isinstance(one, ArrayAt) or of[0] == "Array":
+            return start_of(one, self.types.c(of[1]))
+        return c.AddressOf(expression(one), c.Pointer(self.types.c(of)))
 
-    def one(self, value):
-        operand = self.operand(value.operand)
+    def one(self, value: One) -> c.Expression:
+        operand = expression(self.operand(value.operand))
         if value.operation == "Not":
             if operand.of is c.BOOL:
                 return c.Unary("!", operand, c.BOOL)
@@ -347,12 +416,12 @@ class Body:
             return c.Cast(made, operand)
         raise Unknown(f"an operation {value.operation}")
 
-    def two(self, value):
+    def two(self, value: Two) -> c.Expression:
         if value.operation == "Offset":
             return self.offset(value)
         if value.sign == "Signed":
             raise Unknown("signed numbers")
-        left, right = self.operand(value.first), self.operand(value.second)
+        left, right = expression(self.operand(value.first)), expression(self.operand(value.second))
         operator = OPERATORS[value.operation]
         self.join(left, right, operator)
         if left.of is c.BOOL:
@@ -362,82 +431,81 @@ class Body:
         of = left.of if not isinstance(left, c.Literal) or operator in ("<<", ">>") else right.of
         made = c.Binary(operator, left, right, of)
         # C computes with `int` what is smaller than it.
-        return c.Cast(of, made) if of.bits < 32 and operator not in c.BITWISE else made
+        return c.Cast(of, made) if c.bits(of) < 32 and operator not in c.BITWISE else made
 
-    def offset(self, value):
-        base, index = self.operand(value.first), value.second
-        if base.of.to is not c.BYTE and not (isinstance(base.of.to, c.Number) and base.of.to.bits == 8):
-            index = self.unscaled(index, base.of.to)
-        at = self.operand(index)
+    def offset(self, value: Two) -> c.Expression:
+        base, index = expression(self.operand(value.first)), value.second
+        item = c.pointed(base.of)
+        if not (isinstance(item, c.Number) and item.bits == 8):
+            index = self.unscaled(index, item)
+        at = expression(self.operand(index))
         self.join(at, c.Literal(0, c.Number(64, c.SIZE)), "+")
         return c.AddressOf(c.Index(base, at), base.of)
 
-    def unscaled(self, index, item):
+    def unscaled(self, index: Operand, item: c.Type) -> Operand:
         """The number of the item whose offset in bytes this is."""
         if isinstance(index, Int) and index.value == 0:
             return index
-        if isinstance(index, Int) and self.library.size_of(item) and index.value % self.library.size_of(item) == 0:
-            return Int(index.value // self.library.size_of(item), index.bits)
+        size = self.library.size_of(item)
+        if isinstance(index, Int) and size and index.value % size == 0:
+            return Int(index.value // size, index.bits)
         product = self.single.get(index.local) if isinstance(index, Place) and not index.steps else None
         if isinstance(product, Two) and product.operation == "Mul":
             factor = product.second
-            if isinstance(factor, SizeOf) or isinstance(factor, Int) and factor.value == self.library.size_of(item):
+            if isinstance(factor, SizeOf) or isinstance(factor, Int) and factor.value == size:
                 return product.first
         raise Unknown(f"an offset {index} of {item.text()}")
 
-    def join(self, left, right, operator):
+    @staticmethod
+    def join(left: c.Expression, right: c.Expression, operator: str) -> None:
         """Two numbers that are computed with have one width."""
-        if operator in ("<<", ">>"):
-            return
-        if not all(isinstance(one.of, c.Number) for one in (left, right)):
-            return
-        widths = [one.of.width for one in (left, right)]
-        if all(widths) and not widths[0].join(widths[1]):
+        one, other = c.width_of(left.of), c.width_of(right.of)
+        if operator not in ("<<", ">>") and one and other and not one.join(other):
             raise Unknown("a size of memory together with another number of 64 bits")
 
-    def aggregate(self, operands, of):
+    def aggregate(self, operands: Sequence[Operand | Repeat], of: Type) -> InC:
         kind = self.types.kind(of)
         word = kind.kind
         if word == "unit":
             return None
         parts = [self.operand(one) for one in operands]
         if word == "slice":
-            return parts[0] if len(kind.parts) > 1 else Pair(*parts)
+            return parts[0] if kind.inside is not None else Pair(*map(expression, parts))
         if word == "wrapper":
-            return self.named(parts[kind.parts[0]], of)
+            return self.named(parts[kind.order], of)
         if word == "array":
             raise Unknown("an array of operands")
         if word == "struct":
             fields = [(name, part) for (name, inner), part in zip(self.types.fields(of), parts) if not self.types.is_unit(inner)]
             return self.library.made(of, None, [(name, self.in_struct(part)) for name, part in fields])
-        tag, parts = operands[0].value, [self.in_struct(one) for one in parts[1:]]
-        return self.variant(of, kind, tag, parts)
+        number = operands[0]
+        if not isinstance(number, Int):
+            raise Unknown(f"a variant {number}")
+        return self.variant(of, kind, number.value, parts[1:])
 
-    def in_struct(self, one):
+    def in_struct(self, one: InC) -> c.Expression:
         """A value as a part of a struct."""
-        if isinstance(one, Pair):
-            return self.library.slice_of(one)
-        if isinstance(one, ArrayAt):
-            raise Unknown("an array behind a pointer in a struct")
-        return one
+        return self.library.slice_of(one) if isinstance(one, Pair) else expression(one)
 
-    def variant(self, of, kind, tag, parts):
+    def variant(self, of: Type, kind: Kind, tag: int, values: Sequence[InC]) -> c.Expression:
         word = kind.kind
+        # What has only one value is no part of a struct.
+        parts = [self.in_struct(one) for one in values if one is not None]
         if word == "option":
-            is_full = tag == kind.parts[1]
-            if self.types.is_unit(kind.parts[0]):
+            is_full = tag == kind.full
+            if self.types.is_unit(kind.value):
                 return c.Word("true" if is_full else "false", c.BOOL)
-            flag = [(kind.parts[2], c.Word("true" if is_full else "false", c.BOOL))]
-            return self.library.made(of, tag, flag + ([(kind.parts[3], parts[0])] if is_full else []))
+            flag = [(kind.flag, c.Word("true" if is_full else "false", c.BOOL))]
+            return self.library.made(of, tag, flag + ([(kind.member, parts[0])] if is_full else []))
         if word == "nullable":
             return parts[0] if tag else c.Word("NULL", self.types.c(of))
         if word == "status":
-            return parts[0] if tag else self.library.no_error(kind.parts[0])
+            return parts[0] if tag else self.library.no_error(kind.error)
         if word == "outcome":
             if tag:
                 return self.library.made(of, tag, [("error", parts[0])])
             # No error is what a struct begins with.
-            return self.library.made(of, tag, [("value", parts[0])] if parts and parts[0] is not None else [])
+            return self.library.made(of, tag, [("value", parts[0])] if parts else [])
         if word == "either":
             flag = [("is_error", c.Word("true" if tag else "false", c.BOOL))]
             return self.library.made(of, tag, flag + [("error" if tag else "value", parts[0])])
@@ -446,18 +514,18 @@ class Body:
         constant = c.Word(self.types.constant(of, tag), self.types.c(of))
         if word == "enum":
             return constant
-        filled = [(self.types.part_name(of, tag, order), part) for order, part in enumerate(parts) if part is not None]
+        filled = [(self.types.part_name(of, tag, order), self.in_struct(one)) for order, one in enumerate(values) if one is not None]
         return self.library.made(of, tag, [("kind", constant), *filled])
 
     # Statements.
 
-    def list(self, statements, labels):
-        out = []
+    def list_of(self, statements: list[Statement], labels: list[int]) -> list[c.Statement]:
+        out = list[c.Statement]()
         for one in statements:
             out += self.statement(one, labels)
         return out
 
-    def statement(self, one, labels):
+    def statement(self, one: Statement, labels: list[int]) -> list[c.Statement]:
         if isinstance(one, Assign):
             return self.assign(one.place, one.value)
         if isinstance(one, Call):
@@ -467,7 +535,8 @@ class Body:
         if isinstance(one, (Block, Loop)):
             self.labels += 1
             mine = self.labels
-            return [(c.Block if isinstance(one, Block) else c.Loop)(mine, self.list(one.body, [mine, *labels]))]
+            body = self.list_of(one.body, [mine, *labels])
+            return [c.Block(mine, body) if isinstance(one, Block) else c.Loop(mine, body)]
         if isinstance(one, Exit):
             return [c.Exit(labels[one.depth])]
         if isinstance(one, Return):
@@ -476,11 +545,11 @@ class Body:
             return []
         raise Unknown(f"a statement {one}")
 
-    def returned(self):
+    def returned(self) -> c.Expression | None:
         one = self.start(0)
-        return self.library.slice_of(one) if isinstance(one, Pair) else one
+        return None if one is None else self.in_struct(one)
 
-    def assign(self, place, value):
+    def assign(self, place: Place, value: Value) -> list[c.Statement]:
         to, of = self.place(place)
         if to is None:
             return []
@@ -492,74 +561,76 @@ class Body:
             if is_filled or len(parts) > FEW or any(self.types.is_array_of_header(of, inner) for _, inner in parts):
                 return self.part_by_part(to, of, value)
         if isinstance(value, Aggregate) and of[0] == "Array":
-            start = to.pointer if isinstance(to, ArrayAt) else c.Field(to, "bytes", c.Pointer(self.types.c(of[1])))
-            return [c.Set(c.Index(start, c.Literal(order, c.Number(64, c.SIZE))), self.operand(one)) for order, one in enumerate(value.parts)]
+            start, items = start_of(to, self.types.c(of[1])), [expression(self.operand(one)) for one in value.parts]
+            return [c.Set(c.Index(start, c.Literal(order, c.Number(64, c.SIZE))), one) for order, one in enumerate(items)]
         made = self.value(value, of)
-        if (
-            isinstance(value, Place)
-            and not value.steps
-            and all(isinstance(one, c.Var) and isinstance(one.of, c.Number) and one.of.width for one in (to, made))
-        ):
-            self.copies.append(c.Set(to, made))
-            return [self.copies[-1]]
-        return self.set(to, made)
+        if isinstance(value, Place) and not value.steps and isinstance(to, c.Var) and isinstance(made, c.Var):
+            if c.width_of(to.of) and c.width_of(made.of):
+                self.copies.append(c.Set(to, made))
+                return [self.copies[-1]]
+        return self.put(to, made)
 
-    def set(self, to, value):
+    def put(self, to: InC, value: InC) -> list[c.Statement]:
         """The statements that put a value into a place."""
         if value is None:
             return []
-        if isinstance(to, Pair):
-            return [*self.set(to.pointer, value.pointer), *self.set(to.length, value.length)]
+        if isinstance(to, Pair) and isinstance(value, Pair):
+            return [*self.put(to.pointer, value.pointer), *self.put(to.length, value.length)]
         if isinstance(value, ArrayAt):
             count = c.Literal(value.meaning[2], c.Number(64, c.SIZE))
-            start = to.pointer if isinstance(to, ArrayAt) else c.Field(to, "bytes", c.Pointer(c.BYTE))
+            start = start_of(to, c.BYTE)
             if value.meaning[1] != ("Int", 8):
                 raise Unknown(f"an array of {value.meaning[1]} that is copied")
             return [c.Do(self.library.helper("uart_copy_bytes", [start, value.pointer, count], c.VOID))]
         if isinstance(to, ArrayAt):
             raise Unknown("an array behind a pointer is written")
-        self.join(to, value, "=")
-        return [c.Set(to, value)]
+        place, made = expression(to), expression(value)
+        self.join(place, made, "=")
+        return [c.Set(place, made)]
 
-    def part_by_part(self, to, of, value):
+    def part_by_part(self, to: InC, of: Type, value: Aggregate) -> list[c.Statement]:
         """A struct of many parts: first a variable of its own, since a part may be made of what is there before."""
         made = c.Variable(self.types.c(of), None, False, -1, of, hint=self.name_of_self(of))
         start = self.mostly_of(value.parts, of)
-        out = [] if start is None else [c.Set(c.Var(made), self.load(start))]
+        out: list[c.Statement] = [] if start is None else [c.Set(c.Var(made), expression(self.load(start)))]
         for order, ((name, inner), one) in enumerate(zip(self.types.fields(of), value.parts)):
             if not self.types.is_unit(inner) and (start is None or self.first_place(one) != Place(start.local, (*start.steps, ("Field", order)))):
                 into, _ = self.part(c.Var(made), of, order)
-                out += self.filled(into, one) if isinstance(one, Repeat) else self.set(into, self.named(self.operand(one), inner))
-        return [*out, c.Set(to, c.Var(made))]
+                out += self.filled(into, one) if isinstance(one, Repeat) else self.put(into, self.named(self.operand(one), inner))
+        return [*out, c.Set(expression(to), c.Var(made))]
 
-    def first_place(self, one):
+    def first_place(self, one: Operand | Repeat) -> Operand | Repeat:
         """The part of a struct that never changes which an operand was copied from, or the operand itself."""
         value = self.single.get(one.local) if isinstance(one, Place) and not one.steps else None
-        is_part = isinstance(value, Place) and value.steps and all(word == "Field" for word, _ in value.steps)
-        return value if is_part and value.local in self.single and value.local not in self.changing else one
+        if not isinstance(value, Place) or not value.steps or any(word != "Field" for word, _ in value.steps):
+            return one
+        return value if value.local in self.single and value.local not in self.changing else one
 
-    def mostly_of(self, parts, of):
+    def mostly_of(self, parts: Sequence[Operand | Repeat], of: Type) -> Place | None:
         """Another struct of this type of which most parts are, or None."""
-        parts = [self.first_place(one) for one in parts]
-        found = [Place(one.local, one.steps[:-1]) for order, one in enumerate(parts) if isinstance(one, Place)
-            and one.steps[-1:] == (("Field", order),)]
-        most = max(found, key=found.count, default=None)
-        if most is None or 2 * found.count(most) <= len(parts):
-            return None
-        return most if self.place(most)[1] == of else None
+        places = [(order, one) for order, one in enumerate(map(self.first_place, parts)) if isinstance(one, Place)]
+        found = [Place(one.local, one.steps[:-1]) for order, one in places if one.steps[-1:] == (("Field", order),)]
+        most = max(found, key=found.count) if found else None
+        return most if most and 2 * found.count(most) > len(parts) and self.place(most)[1] == of else None
 
-    def filled(self, to, value):
-        item = self.operand(value.item)
-        start = to.pointer if isinstance(to, ArrayAt) else c.Field(to, "bytes", c.Pointer(c.BYTE))
+    def filled(self, to: InC, value: Repeat) -> list[c.Statement]:
+        item = expression(self.operand(value.item))
+        start = start_of(to, c.BYTE)
         count = c.Literal(value.count, c.Number(64, c.SIZE))
         if isinstance(item.of, c.Number) and item.of.bits == 8:
             return [c.Do(self.library.helper("uart_fill_bytes", [start, item, count], c.VOID))]
         turn = c.Variable(c.Number(64, c.SIZE), hint="place")
         step = c.Set(c.Var(turn), c.Binary("+", c.Var(turn), c.Literal(1, c.Number(64, c.SIZE)), turn.of))
-        return [c.For(c.Set(c.Var(turn), c.Literal(0, c.Number(64, c.SIZE))), c.Binary("<", c.Var(turn), count, c.BOOL), step,
-                      [c.Set(c.Index(start, c.Var(turn)), item)])]
+        return [
+            c.For(
+                c.Set(c.Var(turn), c.Literal(0, c.Number(64, c.SIZE))),
+                c.Binary("<", c.Var(turn), count, c.BOOL),
+                step,
+                [c.Set(c.Index(start, c.Var(turn)), item)],
+            )
+        ]
 
-    def call(self, one):
+    def call(self, one: Call) -> list[c.Statement]:
         to, of = self.place(one.place)
         value = self.called(one, of)
         if value is None:
@@ -568,15 +639,15 @@ class Body:
             return [c.Do(value)] if isinstance(value, c.CallOf) and not value.is_pure else []
         if isinstance(to, Pair):
             return self.slice_from_call(to, of, value)
-        return self.set(to, value)
+        return self.put(to, value)
 
-    def slice_from_call(self, to, of, value):
+    def slice_from_call(self, to: Pair[c.Expression], of: Type, value: InC) -> list[c.Statement]:
         if isinstance(value, Pair):
-            return self.set(to, value)
+            return self.put(to, value)
         made = c.Variable(self.types.c(of), None, False, -1, of, hint="slice")
-        return [c.Set(c.Var(made), value), *self.set(to, self.with_slice(c.Var(made), of))]
+        return [c.Set(c.Var(made), expression(value)), *self.put(to, self.with_slice(c.Var(made), of))]
 
-    def called(self, one, of):
+    def called(self, one: Call, of: Type) -> InC:
         """The value of a call."""
         name = one.function[0]
         if name in BRANCH or name == RANGE_WITHIN and one.function[1][0][1].endswith("::Range"):
@@ -587,71 +658,78 @@ class Body:
             return self.named(c.Literal(self.library.all_bits(one.function), c.BYTE), one.function[1][0])
         arguments = [self.operand(argument) for argument in one.arguments]
         if name in OF_C:
-            return self.call_of_c(*OF_C[name], arguments)
+            return self.call_of_c(*OF_C[name], [expression(argument) for argument in arguments])
         if name == FILLED:
-            self.join(arguments[2], c.Literal(0, c.Number(64, c.SIZE)), "=")
-            return c.CallOf("uart_cells_in_memory", arguments, self.types.c(of))
-        if name == COPY_SLICE:
-            to, start = arguments
-            return self.library.helper("uart_copy_bytes", [to.pointer, start.pointer, to.length], c.VOID)
-        if name == FIRST_CHUNK:
-            least = c.Literal(one.function[1][1][1], c.Number(64, c.SIZE))
-            return c.Choice(c.Binary(">=", arguments[0].length, least, c.BOOL), arguments[0].pointer, c.Word("NULL", arguments[0].pointer.of))
-        if name == ROTATE:
-            items, count = arguments
-            if not (isinstance(count, c.Literal) and count.value == 1 and items.pointer.of.to.text() == "struct u16550_received"):
-                raise Unknown("a rotation by more than one, or of other items than characters")
-            return self.library.helper("uart_first_to_last", [items.pointer, items.length], c.VOID)
-        if name == COPY_DOWN:
-            items, *places = arguments
-            for one in places:
-                self.join(one, c.Literal(0, c.Number(64, c.SIZE)), "=")
-            return self.library.move_down(items.pointer, places)
+            given = [expression(argument) for argument in arguments]
+            self.join(given[2], c.Literal(0, c.Number(64, c.SIZE)), "=")
+            return c.CallOf("uart_cells_in_memory", given, self.types.c(of))
         if name == SAME_ARRAYS:
             count = c.Literal(one.function[1][1][1], c.Number(64, c.SIZE))
-            return self.library.helper("uart_same_bytes", [*arguments, count], c.BOOL)
+            return self.library.helper("uart_same_bytes", [*map(expression, arguments), count], c.BOOL)
+        first = arguments[0] if arguments else None
+        if name in OVER_A_SLICE and isinstance(first, Pair):
+            return self.called_over_slice(one, first, arguments[1:])
         return self.library.call(one.function, arguments, self)
 
-    def call_of_c(self, name, of, arguments):
+    def called_over_slice(self, one: Call, items: Pair[c.Expression], others: list[InC]) -> c.Expression:
+        """The value of a call of a library of slices, whose first argument is one."""
+        name = one.function[0]
+        if name == FIRST_CHUNK:
+            least = c.Literal(one.function[1][1][1], c.Number(64, c.SIZE))
+            return c.Choice(c.Binary(">=", items.length, least, c.BOOL), items.pointer, c.Word("NULL", items.pointer.of))
+        if name == COPY_DOWN:
+            places = [expression(other) for other in others]
+            for place in places:
+                self.join(place, c.Literal(0, c.Number(64, c.SIZE)), "=")
+            return self.library.move_down(items.pointer, places)
+        [other] = others
+        if name == COPY_SLICE and isinstance(other, Pair):
+            return self.library.helper("uart_copy_bytes", [items.pointer, other.pointer, items.length], c.VOID)
+        if not (isinstance(other, c.Literal) and other.value == 1 and c.pointed(items.pointer.of).text() == "struct u16550_received"):
+            raise Unknown("a rotation by more than one, or of other items than characters")
+        return self.library.helper("uart_first_to_last", [items.pointer, items.length], c.VOID)
+
+    def call_of_c(self, name: str, of: c.Type, arguments: list[c.Expression]) -> c.CallOf:
         for order in SIZES.get(name, ()):
             self.join(arguments[order], c.Literal(0, c.Number(64, c.SIZE)), "=")
         return c.CallOf(name, arguments, of)
 
-    def switch(self, one, labels):
+    def switch(self, one: Switch, labels: list[int]) -> list[c.Statement]:
         on = self.operand(one.on)
         if isinstance(on, Tag):
             return self.switch_on_tag(on, one.cases, labels)
-        if on.of is c.BOOL:
-            return [self.two_ways(on, one.cases, 1, labels)]
-        cases = [(None if numbers is None else [c.Literal(n, on.of) for n in numbers], self.list(body, labels)) for numbers, body in one.cases]
-        return [self.choice(on, cases)]
+        number = expression(on)
+        if number.of is c.BOOL:
+            return [self.two_ways(number, one.cases, 1, labels)]
+        return [self.choice(number, self.cases_of(one.cases, lambda value: c.Literal(value, number.of), labels))]
 
-    def two_ways(self, condition, cases, yes_tag, labels):
-        other = next((body for numbers, body in cases if numbers is None), [])
+    def cases_of(self, cases: list[Case], label: Callable[[int], c.Expression], labels: list[int]) -> list[c.Case]:
+        """The cases in C, whose numbers are written in this way."""
+        return [(None if numbers is None else [*map(label, numbers)], self.list_of(body, labels)) for numbers, body in cases]
+
+    def two_ways(self, condition: c.Expression, cases: list[Case], yes_tag: int, labels: list[int]) -> c.If:
+        other = next((body for numbers, body in cases if numbers is None), list[Statement]())
         yes = next((body for numbers, body in cases if numbers is not None and yes_tag in numbers), other)
         no = next((body for numbers, body in cases if numbers is not None and yes_tag not in numbers), other)
-        return c.If(condition, self.list(yes, labels), self.list(no, labels))
+        return c.If(condition, self.list_of(yes, labels), self.list_of(no, labels))
 
-    def switch_on_tag(self, tag, cases, labels):
+    def switch_on_tag(self, tag: Tag, cases: list[Case], labels: list[int]) -> list[c.Statement]:
         kind, one, of = self.types.kind(tag.meaning), tag.value, tag.meaning
         if kind.kind == "option":
-            condition = one if self.types.is_unit(kind.parts[0]) else c.Field(one, kind.parts[2], c.BOOL)
-            return [self.two_ways(condition, cases, kind.parts[1], labels)]
+            condition = one if self.types.is_unit(kind.value) else c.Field(one, kind.flag, c.BOOL)
+            return [self.two_ways(condition, cases, kind.full, labels)]
         if kind.kind == "nullable":
             return [self.two_ways(c.Binary("!=", one, c.Word("NULL", one.of), c.BOOL), cases, 1, labels)]
         if kind.kind == "either":
             return [self.two_ways(c.Field(one, "is_error", c.BOOL), cases, 1, labels)]
         if kind.kind in ("status", "outcome"):
-            error = kind.parts[-1] if kind.kind == "outcome" else kind.parts[0]
-            shown = one if kind.kind == "status" else c.Field(one, "error", self.types.c(error))
-            return [self.two_ways(self.library.is_error(shown, error), cases, 1, labels)]
+            shown = one if kind.kind == "status" else c.Field(one, "error", self.types.c(kind.error))
+            return [self.two_ways(self.library.is_error(shown, kind.error), cases, 1, labels)]
         number = one if kind.kind == "enum" else c.Field(one, "kind", self.types.tag(of))
-        named = [(None if numbers is None else [c.Word(self.types.constant(of, n), number.of) for n in numbers], self.list(body, labels))
-                 for numbers, body in cases]
-        return [self.choice(number, named)]
+        return [self.choice(number, self.cases_of(cases, lambda value: c.Word(self.types.constant(of, value), number.of), labels))]
 
     @staticmethod
-    def choice(on, cases):
+    def choice(on: c.Expression, cases: list[c.Case]) -> c.Statement:
         """An `if` for two cases, and a `switch` for more."""
         if len(cases) == 2 and cases[0][0] is not None and len(cases[0][0]) == 1:
             return c.If(c.Binary("==", on, cases[0][0][0], c.BOOL), cases[0][1], cases[1][1])
@@ -660,4 +738,4 @@ class Body:
         return c.Switch(on, cases)
 
 
-__all__ = ["NATIVE", "Body", "Pair", "head"]
+__all__ = ["NATIVE", "OF_C", "Body", "InC", "Pair", "expression"]

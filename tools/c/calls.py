@@ -1,5 +1,5 @@
 """The interface of the driver for C, as one table: the numbers that functions return and their texts, the data, which values are refused,
-and the functions. `emit` makes the header and the layer of it, and what the library of Rust has of it: its header and its numbers."""
+and the functions. `emit` makes the header and the layer of it, and a list of all calls for tests."""
 from table import SAME, ByHand, Call, Codes, Enum, Field, Group, Member, Number, Numbers, Section, Struct, Value
 
 # What holds of each function, at the top of the headers.
@@ -29,9 +29,11 @@ from then on, and it is zero before a first bus is made in it."""
 
 NOTES = "The memory of notes of errors, which is the library's. It stays where it is as long as the driver notes errors."
 
+# A row is read as a row: black would put each word of a long one on a line of its own.
+# fmt: off
 # What functions return. Negative numbers are misuses. `of` names the variants of errors of the proved code: each variant of an error that a
 # function returns has a number here, or `emit` makes nothing.
-NUMBERS = [
+NUMBERS: list[Numbers] = [
     Numbers("status", "", [
         Number("OK", 0, "no error"),
     ]),
@@ -177,7 +179,7 @@ NUMBERS = [
 ]
 
 # The data, in the order of the header.
-TYPES = [
+TYPES: list[Enum | Struct] = [
     Struct("io", """
 How the device is reached. The functions get the context and an address: the offset of a register, 0 to 7, or after
 u16550_new_port a port, or after u16550_new_mmio an address of memory. They must return, and must not throw. If one of
@@ -291,7 +293,7 @@ drives the bus while its input DE is high, sends while the bit is clear; with an
     ]),
 ]
 
-BITS = [
+BITS: list[Enum] = [
     Enum("ier_bits", "Bits of registers.", [
         Member("IER_DATA_READY", 0x01),
         Member("IER_THR_EMPTY", 0x02),
@@ -361,7 +363,7 @@ VALUES = [
     Value("const uint8_t *buffer", "uart_array(buffer, len, 1, 1)", "buffer"),
     Value("uint8_t *buffer", "uart_array(buffer, len, 1, 1)", "buffer"),
     Value("uint8_t (*keep_waiting)(void *context), void *context", "uart_if(keep_waiting == NULL, U16550_NULL_POINTER)", "&patience",
-        "struct uart_patience patience = { keep_waiting, context }"),
+          "struct uart_patience patience = { keep_waiting, context }"),
     Value("struct u16550_received *received, size_t len", "uart_array(received, len, sizeof(struct u16550_received), 1)", "received, len"),
 ]
 
@@ -372,7 +374,7 @@ CONVERTED = {"none": "TIME_OUT_OF_RANGE", "outcome": "struct uart_maybe_u64"}
 
 # The functions. A `Call` is one call of the proved code, `uart_NAME` of driver or rings, or of a configuration if it takes that first; its
 # guards come of what it takes.
-SECTIONS = [
+SECTIONS: list[Section] = [
     Section("numbers and the version as texts", "", [
         Group("Returns a text for what a function returned, for a log. Never null.", [
             ByHand("text", "int status", returns="const char *"),
@@ -412,10 +414,10 @@ many looks in a row a write of LCR waits; 0 is refused by U16550_ZERO_LIMIT.
 The functions get the offset of a register, 0 to 7, or 31 for the register USR. With mmio there are none, and the registers lie in
 memory as for u16550_new_mmio_wide. Each driver has its own chip, which is in no other use as long as the driver is used.""", [
             ByHand("new_design_ware",
-                "struct u16550 *uart, struct u16550_design_ware *chip, const struct u16550_io *io, uint64_t patience"),
+                   "struct u16550 *uart, struct u16550_design_ware *chip, const struct u16550_io *io, uint64_t patience"),
             ByHand("new_mmio_design_ware",
-                "struct u16550 *uart, struct u16550_design_ware *chip, uintptr_t base, const struct u16550_layout *layout, "
-                "uint64_t patience"),
+                   "struct u16550 *uart, struct u16550_design_ware *chip, uintptr_t base, const struct u16550_layout *layout, "
+                   "uint64_t patience"),
         ]),
         Group("""
 What went wrong since the last write of LCR that the chip took, as an enum u16550_design_ware_fault, or U16550_OK. After a fault the
@@ -448,9 +450,9 @@ Returns an enum u16550_nearest_error if there is none. nearest may be config."""
             ByHand("get_io", "struct u16550 *uart, struct u16550_io *io"),
             ByHand("set_io", "struct u16550 *uart, const struct u16550_io *io"),
             Call("get_config", "struct u16550 *uart, struct u16550_config *config", gives="config",
-                does="uart_encode_config(uart_config(DRIVER), &found)"),
+                 does="uart_encode_config(uart_config(DRIVER), &found)"),
             Call("get_state", "struct u16550 *uart, struct u16550_state *state", gives="state",
-                does="uart_encode_state(uart_state(DRIVER), &found)"),
+                 does="uart_encode_state(uart_state(DRIVER), &found)"),
             Call("fifo_enabled", "struct u16550 *uart, uint8_t *enabled", gives="enabled"),
             Call("spin_limit", "struct u16550 *uart, uint64_t *limit", gives="limit"),
             Call("set_spin_limit", "struct u16550 *uart, uint64_t limit"),
@@ -480,13 +482,13 @@ nanoseconds. At a line that several ports share, those before this one are serve
 this is 0. With 0 for both it is the time until the first read of DATA. Returns U16550_TIME_NOTHING_LEFT if nothing is left, also if the
 two accesses of a byte take longer than a character.""", [
             Call("handler_budget", "const struct u16550_config *config, uint16_t fifo_size, uint64_t access_clocks, uint64_t before_clocks, "
-                "uint64_t *clocks", gives="clocks", none="TIME_NOTHING_LEFT", **PERHAPS),
+                 "uint64_t *clocks", gives="clocks", none="TIME_NOTHING_LEFT", **PERHAPS),
         ]),
         Group("""
 How many characters arrive within so many clocks at most: what a mark of flow control has to leave room for, if these pass until the other
 end holds back.""", [
             Call("characters_in", "const struct u16550_config *config, uint64_t clocks, uint64_t *characters",
-                gives="characters", **BY_DIVISOR),
+                 gives="characters", **BY_DIVISOR),
         ]),
         Group("""
 How many clocks a full transmitter takes to send all that it holds, the FIFO and the shift register: so long at most does a u16550_flush
@@ -502,16 +504,16 @@ The limit for u16550_set_spin_limit with which no wait for a working transmitter
 the other end does not hold the chip off. u16550_clocks_within has these of nanoseconds. Returns U16550_TIME_NO_LIMIT if a look takes
 none.""", [
             Call("spin_limit_for", "const struct u16550_config *config, uint16_t fifo_size, uint64_t access_clocks, uint64_t *limit",
-                gives="limit", none="TIME_NO_LIMIT", **PERHAPS),
+                 gives="limit", none="TIME_NO_LIMIT", **PERHAPS),
         ]),
         Group("""
 Clocks as nanoseconds, and back. Those with 'within' round down: for a time that may be used up, and for the least that a look takes. Those
 with 'covering' round up: for a time to wait, and for the most that an access takes. They return U16550_TIME_OUT_OF_RANGE if the result does
 not fit into 64 bits.""", [
             Call("nanoseconds_within", "const struct u16550_config *config, uint64_t clocks, uint64_t *nanoseconds", gives="nanoseconds",
-                **CONVERTED),
+                 **CONVERTED),
             Call("nanoseconds_covering", "const struct u16550_config *config, uint64_t clocks, uint64_t *nanoseconds", gives="nanoseconds",
-                **CONVERTED),
+                 **CONVERTED),
             Call("clocks_within", "const struct u16550_config *config, uint64_t nanoseconds, uint64_t *clocks", gives="clocks", **CONVERTED),
             Call("clocks_covering", "const struct u16550_config *config, uint64_t nanoseconds, uint64_t *clocks", gives="clocks", **CONVERTED),
         ]),
@@ -527,7 +529,7 @@ not fit into 64 bits.""", [
 Does the same otherwise: without the test of the scratch register, with the wait for the transmitter first or not at all,
 with other outputs. If the wait that comes first ends by U16550_INIT_STALLED, nothing was written but the scratch register.""", [
             Call("init_with", "struct u16550 *uart, const struct u16550_config *config, const struct u16550_setup *setup",
-                error="InitError"),
+                 error="InitError"),
         ]),
         Group("""
 Tests the chip in loopback. Returns an enum u16550_loopback_error if it fails; *failure then has what came back. failure
@@ -540,7 +542,7 @@ Finds how many characters the FIFOs hold as they are set up now, for u16550_set_
 that were received before and not taken are lost, and so is what arrives meanwhile. It takes as long as the characters need on
 the line. Returns an enum u16550_fifos_error if no size was found.""", [
             Call("find_fifo_size", "struct u16550 *uart, uint16_t *fifo_size", gives="fifo_size", error="FifoSizeError", encode="fifo_size",
-                outcome="struct uart_fifo_size_or_fifo_size_error"),
+                 outcome="struct uart_fifo_size_or_fifo_size_error"),
         ]),
         Group("""
 Turns on the FIFOs of 64 characters of a 16750, once its transmitter is empty. *enabled is 1 if they hold 64 then: a
@@ -549,7 +551,7 @@ not taken are lost. Another chip loses nothing, and *enabled is 0. Call it again
 chip. Interrupts are off meanwhile, and DLAB is set for a moment, so nothing else may access the chip. Returns an enum
 u16550_fifos_error if the FIFOs are off, or if the transmitter did not become empty.""", [
             Call("enable_64_byte_fifos", "struct u16550 *uart, uint8_t *enabled", gives="enabled", error="FifoSizeError",
-                outcome="struct uart_bool_or_fifo_size_error"),
+                 outcome="struct uart_bool_or_fifo_size_error"),
         ]),
         Group("""
 Whether the chip shows what was written to it: the frame, these outputs, which after u16550_init are 0x0b, the interrupts, the
@@ -570,7 +572,7 @@ u16550_frame_error if the divisor cannot be had.""", [
         ]),
         Group("Waits until all that was sent is on the line, within the spin limit, and then does the same.", [
             Call("set_frame_when_idle", "struct u16550 *uart, const struct u16550_config *config", error="FrameError",
-                arguments="&decoded"),
+                 arguments="&decoded"),
         ]),
         Group("""
 Sets the trigger level of the receiver FIFO to 1, 4, 8 or 14 characters, without a reset: what is in the FIFOs stays. Returns
@@ -594,7 +596,7 @@ written. The read of ISR acknowledges a THR_EMPTY interrupt. The driver's config
 the chip's clock. Returns an enum u16550_attach_error if the port is not one to be taken. ISR was not read then, and the
 driver is as it was.""", [
             Call("attach", "struct u16550 *uart, uint8_t *dll, uint8_t *dlm", pair="struct uart_pair_of_u8_or_attach_error",
-                error="AttachError"),
+                 error="AttachError"),
         ]),
         Group("""
 For last words, in a panic. The call that the panic came into is never done, and every function over its driver returns
@@ -628,7 +630,7 @@ device is, and U16550_ATTACH_LOOPBACK if the chip stays in loopback. Refused by 
             Call("ready_to_receive", "struct u16550 *uart", false="RECEIVE_NO_DATA"),
             Call("ready_to_send", "struct u16550 *uart", error="ByteSendError"),
             Call("try_receive_byte", "struct u16550 *uart, uint8_t *byte", gives="byte", none="RECEIVE_NO_DATA",
-                outcome="struct u16550_core_maybe_u8"),
+                 outcome="struct u16550_core_maybe_u8"),
             Call("try_send_byte", "struct u16550 *uart, uint8_t byte", error="ByteSendError"),
         ]),
         Group("""
@@ -647,13 +649,13 @@ The same as u16550_send_bytes for bytes in a circular buffer: an urgent byte, as
 wherever the parts meet. urgent may be null, and there is no such byte then. *count is how many of these bytes were sent, from the front:
 the urgent one is the first of them.""", [
             Call("send_gathered", "struct u16550 *uart, const uint8_t *urgent, const uint8_t *first, size_t first_len, "
-                "const uint8_t *second, size_t second_len, size_t *count", gives="count"),
+                 "const uint8_t *second, size_t second_len, size_t *count", gives="count"),
         ]),
         Group("""
 The same as u16550_try_receive_byte and u16550_receive_bytes, with the line errors of each byte. A chip shows these once: if
 an earlier call has looked at the first byte, its errors are missing here. The next u16550_lsr has all of them.""", [
             Call("try_receive_with_errors", "struct u16550 *uart, struct u16550_received *received", gives="received",
-                none="RECEIVE_NO_DATA", outcome="struct uart_maybe_received"),
+                 none="RECEIVE_NO_DATA", outcome="struct uart_maybe_received"),
             Call("receive_with_errors", "struct u16550 *uart, struct u16550_received *received, size_t len, size_t *count", gives="count"),
         ]),
         Group("""
@@ -667,21 +669,21 @@ The same as the two above, and wait no longer than keep_waiting wants: it gets t
 poll, and the wait ends if it returns 0. So a wait can end at a time, by whatever clock there is. The spin limit ends it too.
 keep_waiting must not be null, and a call over this driver from it returns U16550_BUSY.""", [
             Call("receive_bytes_while", "struct u16550 *uart, uint8_t *buffer, size_t len, uint8_t (*keep_waiting)(void *context), "
-                "void *context, size_t *done", stalls="done"),
+                 "void *context, size_t *done", stalls="done"),
             Call("send_bytes_while", "struct u16550 *uart, const uint8_t *buffer, size_t len, uint8_t (*keep_waiting)(void *context), "
-                "void *context, size_t *done", stalls="done"),
+                 "void *context, size_t *done", stalls="done"),
         ]),
         Group("""
 The same wait as u16550_flush, and no longer than keep_waiting wants.""", [
             Call("flush_while", "struct u16550 *uart, uint8_t (*keep_waiting)(void *context), void *context",
-                does="status = uart_if(uart_flush_while(DRIVER, &patience).is_error, U16550_STALLED)"),
+                 does="status = uart_if(uart_flush_while(DRIVER, &patience).is_error, U16550_STALLED)"),
         ]),
         Group("""
 As the traits of embedded-io: some bytes, and a wait for the first. They return U16550_STALLED as the last two.""", [
             Call("read", "struct u16550 *uart, uint8_t *buffer, size_t len, size_t *count", gives="count",
-                stalled="struct uart_u64_or_stalled_error"),
+                 stalled="struct uart_u64_or_stalled_error"),
             Call("write", "struct u16550 *uart, const uint8_t *buffer, size_t len, size_t *count", gives="count",
-                stalled="struct uart_u64_or_stalled_error"),
+                 stalled="struct uart_u64_or_stalled_error"),
             Call("flush", "struct u16550 *uart", does="status = uart_if(uart_flush(DRIVER).is_error, U16550_STALLED)"),
             Call("read_ready", "struct u16550 *uart, uint8_t *ready", gives="ready", stalled="struct uart_bool_or_stalled_error"),
             Call("write_ready", "struct u16550 *uart, uint8_t *ready", gives="ready", stalled="struct uart_bool_or_stalled_error"),
@@ -827,7 +829,7 @@ again, and misses no interrupt that came meanwhile.""", [
 Sends a byte before all that wait, as XON and XOFF are, also during a hold. There is one place: a byte that still waits there is
 replaced, and *replaced is that byte. The second tells which byte still waits.""", [
             Call("ring_queue_urgent", "struct u16550 *uart, uint8_t byte, struct u16550_urgent *replaced", gives="replaced",
-                encode="urgent"),
+                 encode="urgent"),
             Call("ring_urgent", "struct u16550 *uart, struct u16550_urgent *urgent", gives="urgent", encode="urgent"),
         ]),
         Group("""
@@ -882,7 +884,7 @@ also during a hold. What was told last is not told again, and nothing is told wh
 *told is the character. Choose hold with room for what comes until the other end has read an XOFF that goes out after what is in the
 chip. Marks of 0 let the other end go on in any case.""", [
             Call("ring_adjust_xoff", "struct u16550 *uart, size_t hold, size_t release, struct u16550_urgent *told",
-                arguments="uart_marks(hold, release)", gives="told", encode="urgent"),
+                 arguments="uart_marks(hold, release)", gives="told", encode="urgent"),
         ]),
         Group("""
 Obeys the other end that tells this one XOFF and XON: holds the bytes that are queued at an XOFF, and releases them at an XON. Of the
@@ -913,7 +915,7 @@ further call writes 0 to IER again and returns the same, and the rings hand no b
 that a chip that works is not found stuck: see rust/uart_16550/INTERRUPTS.md. 100 rounds are 3,200 interrupts without a pause, if
 the limit is 32.""", [
             Call("ring_try_handle", "struct u16550 *uart, size_t limit, uint32_t rounds, struct u16550_handled *handled", gives="handled",
-                encode="handled", error="StuckError", outcome="struct uart_handled_or_stuck_error"),
+                 encode="handled", error="StuckError", outcome="struct uart_handled_or_stuck_error"),
         ]),
         Group("Whether the chip is stuck, and what ISR showed.", [
             ByHand("ring_stuck", "struct u16550 *uart, struct u16550_stuck *stuck"),

@@ -1,4 +1,7 @@
 """The pair u16550_console: a console over one chip at an address that is known when it is compiled."""
+from __future__ import annotations
+
+import pathlib
 import re
 import sys
 
@@ -7,23 +10,41 @@ import syntax as c
 from driver import ROOT, text_of
 from header import LICENCE
 from kit import program_of
-from library import Library, Unknown
+from library import Fixed, Known, Library, Unknown
 from port import named_in
 from representation import OPTION
-from tree import DEVICE
+from tree import DEVICE, Key
 
 OWN = ("uart_spec", "uart_16550")
 # The struct of the driver, and its name in this pair.
 DRIVER, CONSOLE = "struct u16550_core_driver", "struct u16550_console"
 OF_DRIVER = "uart_16550::driver::Uart16550::"
 # The functions of the driver that the layer calls.
-CALLED = [*(OF_DRIVER + one for one in ("set_up", "attach", "test_loopback", "try_send_byte", "send_bytes_exact", "try_receive_byte",
-                                        "lsr", "set_modem_control", "send_singly")),
-          "uart_16550::tty::Uart16550Tty::write_raw_text"]
+CALLED = [
+    *(
+        OF_DRIVER + one
+        for one in (
+            "set_up",
+            "attach",
+            "test_loopback",
+            "try_send_byte",
+            "send_bytes_exact",
+            "try_receive_byte",
+            "lsr",
+            "set_modem_control",
+            "send_singly",
+        )
+    ),
+    "uart_16550::tty::Uart16550Tty::write_raw_text",
+]
 # The members of the driver that one program has only one value of.
 SIXTEEN, LIMIT = "U16550_CORE_FIFO_SIZE_SIXTEEN", "U16550_CONSOLE_POLLS"
-CONFIG = {"check_cts_before_sending": "false", "extra_stop_bits": "false", "data_bits": "U16550_CORE_WORD_LENGTH_EIGHT_BITS",
-          "parity": "U16550_CORE_PARITY_DISABLED"}
+CONFIG = {
+    "check_cts_before_sending": "false",
+    "extra_stop_bits": "false",
+    "data_bits": "U16550_CORE_WORD_LENGTH_EIGHT_BITS",
+    "parity": "U16550_CORE_PARITY_DISABLED",
+}
 BITS = {"U16550_MCR_OUT_1": 4, "U16550_LCR_SET_BREAK": 64}
 TOP = f"""{LICENCE}/*
  * u16550_console.c - a console over one 16550. u16550_console.h says how it is used.
@@ -41,29 +62,35 @@ LARGE = ("uart_bytes16",)
 GONE = ("backend", "config", "fifo_size", "saved_msr", "spin_limit")
 
 
-def constant(name):
+def constant(name: str) -> Fixed:
     return lambda one: c.Word(name, one.of)
 
 
-def members(library):
+def members(library: Library) -> dict[tuple[str, str], Fixed | None]:
     """What is known of members: the value that each has for ever."""
     level = next(one for one in library.forest.program.types if one.endswith("::FifoTriggerLevel"))
 
-    def some_level(one):
+    def some_level(one: c.Expression) -> c.CallOf:
         # The level that Config::DEFAULT has.
         inner = c.Word("U16550_CORE_FIFO_TRIGGER_LEVEL_FOURTEEN", c.Code("enum u16550_core_fifo_trigger_level"))
         return library.made(("Named", OPTION, (("Named", level, ()),)), 1, [("is_some", c.Word("true", c.BOOL)), ("value", inner)])
 
     config = "struct u16550_core_config"
-    return {(DRIVER, "fifo_size"): constant(SIXTEEN), (DRIVER, "spin_limit"): constant(LIMIT),
-            (DRIVER, "backend"): constant("uart_chip"), (DRIVER, "config"): constant("uart_config"), (DRIVER, "saved_msr"): None,
-            **{(config, name): constant(value) for name, value in CONFIG.items()},
-            (config, "interrupts"): lambda one: c.Literal(0, one.of), (config, "fifo_trigger_level"): some_level}
+    return {
+        (DRIVER, "fifo_size"): constant(SIXTEEN),
+        (DRIVER, "spin_limit"): constant(LIMIT),
+        (DRIVER, "backend"): constant("uart_chip"),
+        (DRIVER, "config"): constant("uart_config"),
+        (DRIVER, "saved_msr"): None,
+        **{(config, name): constant(value) for name, value in CONFIG.items()},
+        (config, "interrupts"): lambda one: c.Literal(0, one.of),
+        (config, "fifo_trigger_level"): some_level,
+    }
 
 
-def made(folder):
+def made(folder: pathlib.Path | None) -> tuple[dict[str, str], Library]:
     """The texts of the header and of the source, and the library that was translated."""
-    known = {}
+    known = dict[Key, Known]()
     library = translated(folder, known)
     while more := library.constants():
         known = {key: known.get(key, {}) | more.get(key, {}) for key in known.keys() | more.keys()}
@@ -72,7 +99,7 @@ def made(folder):
     layer = text_of("layer_console.c")
     text = called_by(text, layer)
     struct = next(one for name, one in library.types.declarations if f"struct {name}" == DRIVER)
-    shown = re.sub(rf"(?m)^ *[^\n]*\b({'|'.join(GONE)});[^\n]*\n", "", struct[struct.index(DRIVER):])
+    shown = re.sub(rf"(?m)^ *[^\n]*\b({'|'.join(GONE)});[^\n]*\n", "", struct[struct.index(DRIVER) :])
     # What the driver is made of, and a console has not, is not declared.
     own = named_in([one for one in library.types.declarations if one[1] != struct], text + layer + shown)
     if found := re.search(rf"\b(uart_config|uart_chip)\b|(->|\.)({'|'.join(GONE)})\b", re.sub(r"/\*[\s\S]*?\*/", "", text) + layer):
@@ -86,34 +113,34 @@ def made(folder):
     return {name: one.replace(DRIVER, CONSOLE) for name, one in files.items()}, library
 
 
-def accesses():
+def accesses() -> str:
     """How `u16550_new_mmio_wide` accesses registers: the barriers, and a load and a store between two of them."""
     guards, memory = text_of("layer_guards.c"), text_of("layer_memory.c")
     fence, ordered = guards.index("/* What is before this in the text"), memory.index("/*\n * Makes the processor finish")
     end = "#endif\n"
-    return guards[fence:guards.index(end, fence) + len(end)] + "\n" + memory[ordered:memory.index("UART_WORD(8, ")]
+    return guards[fence : guards.index(end, fence) + len(end)] + "\n" + memory[ordered : memory.index("UART_WORD(8, ")]
 
 
-def in_place_of_device(text):
+def in_place_of_device(text: str) -> str:
     """A text in which the functions that reach the device are not given it: there is one."""
     return text.replace("(&uart_chip, ", "(")
 
 
-def driver_as_terminal(text):
+def driver_as_terminal(text: str) -> str:
     """A text in which a terminal, which is a driver and nothing else, is one."""
     return re.sub(r"struct uart_tty \*tty\b", f"{DRIVER} *uart", text).replace("&tty->inner", "uart").replace("(tty, ", "(uart, ")
 
 
-def called_by(text, layer):
+def called_by(text: str, layer: str) -> str:
     """A text without the functions whose calls have gone on the way."""
     pattern = r"(?m)^(?:/\*(?:(?!\*/)[\s\S])*\*/\n)?static [\w *]*?[\n *](uart_\w+)\([^(){};]*\)\n\{\n[\s\S]*?^\}\n\n?"
     while gone := [one for one in re.finditer(pattern, text) if len(re.findall(rf"\b{one[1]}\(", text + layer)) == 1]:
         for one in reversed(gone):
-            text = text[:one.start()] + text[one.end():]
+            text = text[: one.start()] + text[one.end() :]
     return text
 
 
-def translated(folder, known):
+def translated(folder: pathlib.Path | None, known: dict[Key, Known]) -> Library:
     library = Library(program_of(OWN, folder, "./prove uart_16550"), names.Source(ROOT, OWN), {}, OWN, "U16550", known=known)
     library.fixed = members(library)
     library.types.bare = set(BARE)

@@ -1,9 +1,12 @@
-"""The pair u16550: the driver with its rings, and the functions of its header as a layer around them; and what the library of Rust has of the
-table of the interface."""
+"""The pair u16550: the driver with its rings, and the functions of its header as a layer around them; and what its tests have of the table of
+the interface."""
+from __future__ import annotations
+
 import pathlib
 import re
 import sys
 import tomllib
+from collections.abc import Iterator
 
 import calls
 import each
@@ -51,26 +54,23 @@ TOP = f"""{header.LICENCE}/*
 """
 
 
-def text_of(name):
+def text_of(name: str) -> str:
     return (FOLDER / name).read_text(encoding="ascii")
 
 
-def version():
+def version() -> str:
     """The version of the repository: that of the package of the driver."""
     manifest = (ROOT / "rust" / "uart_16550" / "Cargo.toml").read_text(encoding="utf-8")
-    return tomllib.loads(manifest)["package"]["version"]
+    return str(tomllib.loads(manifest)["package"]["version"])
 
 
-def of_table():
-    """The files that need no proof, by their paths: the header and the numbers of the library that is made of Rust, and each call for its
-    tests."""
+def of_table() -> dict[str, str]:
+    """The file that needs no proof, by its path: each call, for tests."""
     table.check(calls)
-    of_rust = "rust/uart_16550_c"
-    return {f"{of_rust}/include/u16550.h": header.of_rust(text_of("header_rust.h"), version()),
-            f"{of_rust}/src/codes.rs": header.numbers_in_rust(version()), f"{of_rust}/tests/each.h": each.text()}
+    return {"c/tests/each.h": each.text()}
 
 
-def wanted(library, text):
+def wanted(library: Library, text: str) -> Iterator[str]:
     """The functions of our crates that a text of C calls, by their C names."""
     called = set(re.findall(r"\b(uart_\w+)\(", text))
     for name in library.forest.program.functions:
@@ -79,11 +79,12 @@ def wanted(library, text):
             yield name
 
 
-def made(folder):
+def made(folder: pathlib.Path | None) -> tuple[dict[str, str], Library]:
     """The texts of the header and of the source, and the library that was translated."""
     table.check(calls)
-    library = Library(program_of(OWN, folder, "./prove uart_ring && ./prove uart_design_ware && ./prove uart_rs485"), names.Source(ROOT, OWN),
-        PUBLIC, OWN, "U16550")
+    library = Library(
+        program_of(OWN, folder, "./prove uart_ring && ./prove uart_design_ware && ./prove uart_rs485"), names.Source(ROOT, OWN), PUBLIC, OWN, "U16550"
+    )
     for one in IN_HEADER:
         library.types.put_into_header(one)
     guards, by_hand = ("\n".join(text_of(f"layer_{one}.c") for one in which) for which in (GUARDS, BY_HAND))
@@ -106,7 +107,7 @@ def made(folder):
     return {"u16550.h": of_header, "u16550.c": of_source}, library
 
 
-def constants(library, header_text):
+def constants(library: Library, header_text: str) -> str:
     """The offsets of registers, and those bits that the header has not."""
     shown = {name: int(value, 16) for name, value in re.findall(r"\b(U16550_\w+) = (0x[0-9a-f]+)", header_text)}
     for name, value in library.bits.items():
@@ -114,5 +115,10 @@ def constants(library, header_text):
             sys.exit(f"emit: {name} is {shown[name]:#x} in the header, and {value:#x} in what is proved")
     offsets = [f"    UART_{name} = {value}" for name, value in sorted(library.offsets.items(), key=lambda one: (one[1], one[0]))]
     bits = [f"    {name} = {value:#04x}" for name, value in sorted(library.bits.items()) if name not in shown]
-    return ("/* Where the registers are. */\nenum {\n" + ",\n".join(offsets) + "\n};\n\n/* Bits that are in no interface. */\nenum {\n" +
-            ",\n".join(bits) + "\n};\n")
+    return (
+        "/* Where the registers are. */\nenum {\n"
+        + ",\n".join(offsets)
+        + "\n};\n\n/* Bits that are in no interface. */\nenum {\n"
+        + ",\n".join(bits)
+        + "\n};\n"
+    )

@@ -1,18 +1,24 @@
-"""The headers, from the table of the interface: that of the C, and that of the library that is made of Rust. What the two do not share is in
-header_c.h and header_rust.h."""
+"""The header, from the table of the interface. What is in no row of it is in header_c.h."""
+from __future__ import annotations
+
+from collections.abc import Callable, Sequence
+from typing import TypeAlias
+
 import calls
-import syntax as c
+from table import ByHand, Call, Enum, Struct
+
+# What a header says of a function in front of it.
+Proved: TypeAlias = "Callable[[Call | ByHand], str]"
 
 # How far to the right the remarks of numbers and of fields begin, and how long a line is.
 NUMBER, FIELD, WIDTH = 33, 39, 128
-CONVENTION = "U16550_CALL "
 # What each file that users copy begins with. Without the folder of the repository nothing else tells what they may do with it.
 LICENCE = """/* SPDX-FileCopyrightText: 2025 Philipp Schuster, 2026 Geesetrunk */
 /* SPDX-License-Identifier: MIT OR Apache-2.0 */
 """
 
 
-def comment(text):
+def comment(text: str) -> str:
     """A text as a comment, on one line if it fits."""
     lines = text.strip("\n").split("\n") if text else []
     if not lines:
@@ -22,126 +28,118 @@ def comment(text):
     return "/*\n" + "".join(f" * {one}".rstrip() + "\n" for one in lines) + " */\n"
 
 
-def remarked(line, remark, column):
+def remarked(line: str, remark: str, column: int) -> str:
     """A line with a remark behind it."""
     return f"{line.ljust(column)} /* {remark} */" if remark else line
 
 
-def enum_of(name, about, members):
+def enum_of(name: str, about: str, members: Sequence[tuple[str, int | str, str]]) -> str:
     """An enum. `members` are names, numbers and remarks."""
     if len(members) == 1:
         only, number, remark = members[0]
         whole = f"enum u16550_{name} {{ U16550_{only} = {number} }};"
         return comment(about) + (f"{whole} /* {remark} */" if remark else whole) + "\n"
-    lines = [remarked(f"    U16550_{one} = {number}" + ("" if at == len(members) - 1 else ","), remark, NUMBER)
-             for at, (one, number, remark) in enumerate(members)]
+    lines = [
+        remarked(f"    U16550_{one} = {number}" + ("" if at == len(members) - 1 else ","), remark, NUMBER)
+        for at, (one, number, remark) in enumerate(members)
+    ]
     return comment(about) + f"enum u16550_{name} {{\n" + "\n".join(lines) + "\n};\n"
 
 
-def numbers():
+def numbers() -> str:
     """What functions return, and the functions that tell it."""
     enums = [enum_of(one.enum, one.about, [(member.name, member.value, member.told()) for member in one.members]) for one in calls.NUMBERS]
     return "\n".join(enums)
 
 
-def bits(one):
+def bits(one: Enum) -> list[tuple[str, int | str, str]]:
     return [(member.name, f"{member.value:#04x}" if one in calls.BITS else member.value, member.note) for member in one.members]
 
 
-def types(convention):
+def types() -> str:
     """The data."""
     out = []
     for one in [*calls.TYPES, *calls.BITS]:
-        if isinstance(one, calls.Enum):
+        if isinstance(one, Enum):
             out.append(enum_of(one.name, one.about, bits(one)))
             continue
         lines = [remarked(f"    {field.declared};", field.note, FIELD) for field in one.members]
-        lines = [line.replace("(*", f"({convention}*") for line in lines]
         out.append(comment(one.about) + f"struct u16550_{one.name} {{\n" + "\n".join(lines) + "\n};\n")
     return "\n".join(out)
 
 
-def declared(call, convention):
+def declared(call: Call | ByHand) -> str:
     """The declaration of a function."""
-    result = f"{getattr(call, 'returns', 'int')} "
-    first = f"{result.replace('* ', '*')}{convention}u16550_{call.name}("
-    takes = call.takes.replace("(*", f"({convention}*")
-    whole = f"{first}{takes});"
+    result = f"{call.returns if isinstance(call, ByHand) else 'int'} "
+    first = f"{result.replace('* ', '*')}u16550_{call.name}("
+    whole = f"{first}{call.takes});"
     if len(whole) <= WIDTH:
         return whole
     cut = whole.rindex(", ", 0, WIDTH)
-    return whole[:cut + 1] + "\n" + " " * len(first) + whole[cut + 2:]
+    return whole[: cut + 1] + "\n" + " " * len(first) + whole[cut + 2 :]
 
 
-def functions(convention, proved):
+def functions(proved: Proved) -> str:
     """The functions, each with what is proved of it."""
     out = []
     for section in calls.SECTIONS:
         head = f"/* --------------------------------------------------------------- {section.title}"
-        out.append(head + (" */\n" if not section.about else "\n *\n" + "".join(f" * {one}".rstrip() + "\n" for one in
-                                                                               section.about.strip().split("\n")) + " */\n"))
+        about = "".join(f" * {one}".rstrip() + "\n" for one in section.about.strip().split("\n"))
+        out.append(head + (f"\n *\n{about} */\n" if section.about else " */\n"))
         if section.lines:
             out.append(section.lines.strip() + "\n")
-        out += [comment(group.about) + "".join(proved(one) + declared(one, convention) + "\n" for one in group.calls) for group in section.groups]
+        out += [comment(group.about) + "".join(proved(one) + declared(one) + "\n" for one in group.calls) for group in section.groups]
     return "\n".join(out)
 
 
-def structs():
+def structs() -> str:
     """A member for each struct of the header that a program may have."""
-    names = [*(one.name for one in calls.TYPES if isinstance(one, calls.Struct)), "design_ware", "bus", "notes"]
+    names = [*(one.name for one in calls.TYPES if isinstance(one, Struct)), "design_ware", "bus", "notes"]
     return "".join(f"    struct u16550_{one} {one};\n" for one in names) + "    struct u16550 driver;\n"
 
 
-def makers():
+def makers() -> str:
     """The functions that make a driver, each behind the look at the layout."""
-    names = [one.name for section in calls.SECTIONS if section.title == "making a driver" for group in section.groups for one in group.calls
-             if one.name.startswith(("new", "from_state"))]
+    groups = [group for section in calls.SECTIONS if section.title == "making a driver" for group in section.groups]
+    names = [one.name for group in groups for one in group.calls if one.name.startswith(("new", "from_state"))]
     return "".join(f"#define u16550_{one}(...) U16550_LAID_OUT(u16550_{one}(__VA_ARGS__))\n" for one in names)
 
 
-def version(number):
+def version(number: str) -> str:
     """The version as a text, and as a number that grows."""
     major, minor, patch = map(int, number.split("."))
-    return (f'/* The version of this header. u16550_version returns that of the library. */\n#define U16550_VERSION "{number}"\n'
-            f"#define U16550_VERSION_NUMBER {major * 10000 + minor * 100 + patch}\n")
+    return (
+        f'/* The version of this header. u16550_version returns that of the library. */\n#define U16550_VERSION "{number}"\n'
+        f"#define U16550_VERSION_NUMBER {major * 10000 + minor * 100 + patch}\n"
+    )
 
 
-def filled(template, number, convention, kept="", proved=lambda call: ""):
+def filled(template: str, number: str, kept: str, proved: Proved) -> str:
     """A template with what the table says."""
-    parts = {"RULES": "".join(f" * {one}".rstrip() + "\n" for one in calls.RULES.strip().split("\n")), "VERSION": version(number),
-             "NUMBERS": numbers(), "TYPES": types(convention), "KEPT": kept, "HANDLE": comment(calls.HANDLE), "CHIP": comment(calls.CHIP),
-             "NOTES": comment(calls.NOTES), "BUS": comment(calls.BUS), "CALLS": functions(convention, proved), "STRUCTS": structs(),
-             "MAKERS": makers()}
+    parts = {
+        "RULES": "".join(f" * {one}".rstrip() + "\n" for one in calls.RULES.strip().split("\n")),
+        "VERSION": version(number),
+        "NUMBERS": numbers(),
+        "TYPES": types(),
+        "KEPT": kept,
+        "HANDLE": comment(calls.HANDLE),
+        "CHIP": comment(calls.CHIP),
+        "NOTES": comment(calls.NOTES),
+        "BUS": comment(calls.BUS),
+        "CALLS": functions(proved),
+        "STRUCTS": structs(),
+        "MAKERS": makers(),
+    }
     for name, text in parts.items():
         template = template.replace(f"@{name}@", text)
     return template
 
 
-def of_c(template, number, kept, proved):
+def of_c(template: str, number: str, kept: str, proved: dict[str, list[str]]) -> str:
     """The header of the C. `kept` are the types that a driver is made of, and `proved` the words on a function, by its name."""
-    def told(call):
+
+    def told(call: Call | ByHand) -> str:
         lines = proved.get(call.name) or proved.get(f"config_{call.name}") or []
         return comment("\n".join(lines)) if lines else ""
-    return LICENCE + filled(template, number, "", kept, told)
 
-
-def of_rust(template, number):
-    """The header of the library that is made of Rust."""
-    return LICENCE + filled(template, number, CONVENTION)
-
-
-def numbers_in_rust(version):
-    """The numbers and their texts as the library of Rust has them, and its version: that of the package, which rustc alone does not know."""
-    members = [one for group in calls.NUMBERS for one in group.members if one.value]
-    names = ["".join(word.capitalize() for word in one.name.split("_")) for one in members]
-    lines = ["//! What the functions return: one number for each error of the driver, and for each misuse of a function.", "//!",
-             "//! Made by `tools/c/emit` from the table of the interface. Do not edit.", "", "use core::ffi::CStr;", "",
-             "/// The version of this package, as the header's `U16550_VERSION`.", f'pub const VERSION: &CStr = c"{version}";', "",
-             "/// Why a call did not do what it is for. Numbers of misuses are negative.", "#[derive(Clone, Copy)]", "#[repr(i32)]",
-             "pub enum Failure {", *(f"    {name} = {one.value}," for name, one in zip(names, members)), "}", "", "impl Failure {",
-             f"    pub const ALL: [Self; {len(names)}] = [", *(f"        Self::{name}," for name in names), "    ];", "",
-             "    pub const fn text(self) -> &'static CStr {", "        match self {"]
-    for name, one in zip(names, members):
-        line = f'            Self::{name} => c"{one.text}",'
-        lines += [line] if len(line) <= c.WIDTH else [f"            Self::{name} => {{", f'                c"{one.text}"', "            }"]
-    return "\n".join([*lines, "        }", "    }", "}", ""])
+    return LICENCE + filled(template, number, kept, told)

@@ -27,11 +27,6 @@
 #include <stdint.h>
 #endif
 
-/* Nothing here. The library that is made of Rust has a calling convention, and programs over both have this in front of their functions. */
-#ifndef U16550_CALL
-#define U16550_CALL
-#endif
-
 #if defined(__cplusplus)
 extern "C" {
 #endif

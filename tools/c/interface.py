@@ -1,39 +1,53 @@
 """The functions of the header, as a layer around what is translated: it refuses what Rust's types and the guards of the eraser refuse, and
 gives each error its number. All of it is made of the table, calls.py; what is in no row is in layer_bottom.c."""
+from __future__ import annotations
+
 import re
+from collections.abc import Iterable, Sequence
+from typing import TypeAlias
 
 import calls
 import syntax as c
 from names import snake
-from table import Call, Wrong
+from table import Call, Value, Wrong
 
 PLACES = {"DRIVER": "&uart->ring.uart", "RING": "&uart->ring"}
 # How the alignment of what a pointer leads to is called in layer_bottom.c. A byte, and a struct of bytes, may be anywhere.
-ALIGNMENTS = {"size_t": "size", "uint64_t": "u64", "struct u16550_config": "config", "struct u16550_state": "state",
-              "struct u16550_handled": "handled"}
+ALIGNMENTS = {
+    "size_t": "size",
+    "uint64_t": "u64",
+    "struct u16550_config": "config",
+    "struct u16550_state": "state",
+    "struct u16550_handled": "handled",
+}
 
 
-def number(name):
+# The numbers of the variants of an error; of one that has an error in it, those of that.
+Branches: TypeAlias = "dict[str, str | Branches]"
+
+
+def number(name: str) -> str:
     return f"U16550_{name}"
 
 
 # Numbers of data, and errors as numbers.
 
+
 class Enums:
     """The enums of the translated code: the names of their members, by what the type is called."""
 
-    def __init__(self, text):
+    def __init__(self, text: str) -> None:
         self.named = {}
         for word, name, body in re.findall(r"(?m)^(enum) (\w+) \{\n(.*?)\n\};", text, flags=re.S):
             members = re.findall(r"(?m)^    (\w+) = ", body)
             self.named[re.sub(r"^(uart|u16550_core)_", "", name)] = (f"{word} {name}", members)
 
-    def of(self, name):
+    def of(self, name: str) -> tuple[str, list[str]]:
         if name not in self.named:
             raise Wrong(f"calls.py: the translated code has no enum {name}")
         return self.named[name]
 
-    def complete(self, name, given):
+    def complete(self, name: str, given: Iterable[str]) -> tuple[str, list[tuple[str, str]]]:
         """The C name of the enum, and its members by the variants, all of which the table has to have."""
         kind, members = self.of(name)
         prefix = kind.split()[1].removesuffix("_kind").upper()
@@ -45,18 +59,19 @@ class Enums:
         return kind, [(one, wanted[one]) for one in members if one in wanted]
 
 
-def switch(on, cases, otherwise):
+def switch(on: str, cases: Sequence[tuple[str, list[str]]], otherwise: str | None) -> list[str]:
     """A switch that returns a value for each case. The last case is that of all other numbers, if `otherwise` is none."""
     lines = [f"    switch ({on}) {{"]
     for at, (label, does) in enumerate(cases):
-        lines += [f"    case {label}:"] + (["    default:"] if otherwise is None and at == len(cases) - 1 else []) + [f"        {one}"
-            for one in does]
+        lines += (
+            [f"    case {label}:"] + (["    default:"] if otherwise is None and at == len(cases) - 1 else []) + [f"        {one}" for one in does]
+        )
     if otherwise is not None:
         lines += ["    default:", f"        {otherwise}"]
     return [*lines, "    }"]
 
 
-def codes(enums):
+def codes(enums: Enums) -> str:
     """The functions that read and write numbers of data."""
     out = []
     for row in calls.CODES:
@@ -66,29 +81,41 @@ def codes(enums):
         shown = {variant: number(code) if isinstance(code, str) else str(code) for variant, code in row.numbers.items()}
         if row.given:
             cases = [(shown[variant], [f"*to = {member};", "return U16550_OK;"]) for member, variant in members]
-            out.append("\n".join([f"static int uart_decode_{name}({row.kind} from, {kind} *to)", "{",
-                                  *switch("from", cases, "return U16550_BAD_CODE;"), "}", ""]))
+            out.append(
+                "\n".join(
+                    [f"static int uart_decode_{name}({row.kind} from, {kind} *to)", "{", *switch("from", cases, "return U16550_BAD_CODE;"), "}", ""]
+                )
+            )
         if row.got:
             cases = [(member, [f"return {shown[variant]};"]) for member, variant in members]
             out.append("\n".join([f"static {row.kind} uart_encode_{name}({kind} from)", "{", *switch("from", cases, None), "}", ""]))
     return "\n".join(out)
 
 
-def statuses(enums):
+def statuses(enums: Enums) -> str:
     """The functions that give each error its number."""
-    tree = {}
+    tree = dict[str, Branches]()
     for group in calls.NUMBERS:
         for one in group.members:
             for path in one.of:
                 root, *rest = path.split(".")
-                at = tree.setdefault(root, {})
-                for step in rest[:-1]:
-                    at = at.setdefault(step, {})
-                at[rest[-1]] = number(one.name)
+                put(tree.setdefault(root, {}), rest, number(one.name))
     return "\n".join(status(enums, root, branches) for root, branches in sorted(tree.items()))
 
 
-def status(enums, root, branches):
+def put(branches: Branches, steps: list[str], value: str) -> None:
+    """Puts a number where some steps lead to."""
+    step, *rest = steps
+    if rest:
+        inside = branches.setdefault(step, {})
+        if isinstance(inside, str):
+            raise Wrong(f"calls.py: {step} is an error, and has one in it")
+        put(inside, rest, value)
+    else:
+        branches[step] = value
+
+
+def status(enums: Enums, root: str, branches: Branches) -> str:
     name = snake(root)
     is_tagged = f"{name}_kind" in enums.named
     kind, members = enums.complete(f"{name}_kind" if is_tagged else name, branches)
@@ -102,7 +129,7 @@ def status(enums, root, branches):
     return "\n".join([f"static int uart_status_of_{name}(const {of} *error)", "{", *switch(on, cases, None), "}", ""])
 
 
-def inner(enums, part, branches):
+def inner(enums: Enums, part: str, branches: Branches) -> list[str]:
     """What is returned of an error in an error, which has two variants."""
     for kind, members in enums.named.values():
         prefix = kind.split()[1].removesuffix("_kind").upper()
@@ -114,7 +141,7 @@ def inner(enums, part, branches):
     raise Wrong(f"calls.py: no error in an error has just the variants {sorted(branches)}")
 
 
-def texts():
+def texts() -> str:
     """The function that has the texts of the numbers."""
     members = [one for group in calls.NUMBERS for one in group.members]
     cases = [(number(one.name), [f'return "{one.text}";']) for one in members]
@@ -123,18 +150,19 @@ def texts():
 
 # The functions.
 
-def layer():
+
+def layer() -> str:
     """The text of all functions that are rows of the table."""
     return "\n".join(function(one) for section in calls.SECTIONS for group in section.groups for one in group.calls if isinstance(one, Call))
 
 
-def type_of(call, name):
+def type_of(call: Call, name: str) -> str:
     """The type of what a parameter points to."""
     found = next(one for one in call.parameters() if one.endswith(f"*{name}"))
     return found.removeprefix("const ").removesuffix(f"*{name}").strip()
 
 
-def usable(call, name):
+def usable(call: Call, name: str) -> str:
     """The test of a pointer to what is written."""
     alignment = ALIGNMENTS.get(type_of(call, name))
     if name == call.stalls:
@@ -142,12 +170,12 @@ def usable(call, name):
     return f"UART_USABLE({name}, {alignment})" if alignment else f"uart_if({name} == NULL, U16550_NULL_POINTER)"
 
 
-def values(call):
+def values(call: Call) -> tuple[list[Value], list[str]]:
     """What of the table of values a function takes: those that count, in the order of their tests, and what the proved function gets."""
     taken, passed = [], []
     of_driver = 0 if of_config(call) else 1
     for order, parameter in enumerate(call.parameters()[of_driver:], of_driver):
-        both = ", ".join(call.parameters()[order:order + 2])
+        both = ", ".join(call.parameters()[order : order + 2])
         rule = next((one for one in calls.VALUES if one.parameter in (parameter, both) or parameter == one.parameter), None)
         name = re.sub(r".*[ *]", "", parameter)
         if rule and not (rule.parameter == "uint64_t limit" and call.name != "set_spin_limit"):
@@ -158,7 +186,7 @@ def values(call):
     return sorted(taken, key=calls.VALUES.index), passed
 
 
-def locals_of(call, taken):
+def locals_of(call: Call, taken: list[Value]) -> list[str]:
     """The variables of a function, before that of its status."""
     out = [one.local for one in taken if one.local]
     if call.pair:
@@ -176,12 +204,12 @@ def locals_of(call, taken):
     return out
 
 
-def error_type(name):
+def error_type(name: str) -> str:
     """How C has an error: struct or enum."""
     return ("enum" if name in ("ByteSendError", "RemoteReadyToReceiveError") else "struct") + f" uart_{snake(name)}"
 
 
-def body(call, passed):
+def body(call: Call, passed: list[str]) -> tuple[list[str], str | None, list[tuple[str, str]]]:
     """What is done once nothing is refused; what is returned; what is written where."""
     arguments = ", ".join([PLACES["RING" if of_rings(call) else "DRIVER"], *([call.arguments] if call.arguments else passed)])
     made = f"uart_{call.name}({arguments})"
@@ -213,22 +241,22 @@ def body(call, passed):
     return [f"{made};"], None, []
 
 
-def of_rings(call):
+def of_rings(call: Call) -> bool:
     return call.name.startswith("ring_")
 
 
-def of_config(call):
+def of_config(call: Call) -> bool:
     """Whether a call is over a configuration alone, and over no driver."""
     return call.parameters()[0] == "const struct u16550_config *config"
 
 
-def in_turn(tests):
+def in_turn(tests: list[str]) -> list[str]:
     """The lines that set the status by each test that follows on none that failed."""
     first, *others = tests
     return [f"    status = {first};", *(line for one in others for line in ("    if (status == U16550_OK)", f"        status = {one};"))]
 
 
-def entered(call, written):
+def entered(call: Call, written: list[tuple[str, str]]) -> list[str]:
     """The tests of the pointers that are written to, and the entry."""
     enter = "uart_enter_rings(uart)" if of_rings(call) else "uart_enter(uart)"
     names = [name for name, _ in written]
@@ -242,7 +270,7 @@ def entered(call, written):
     return [*lines, "    if (status != U16550_OK)", "        return status;"]
 
 
-def function(call):
+def function(call: Call) -> str:
     taken, passed = values(call)
     if of_config(call):
         return written_out(call, lines_of_config(call, taken, passed))
@@ -253,11 +281,11 @@ def function(call):
     return written_out(call, lines + [f"    {one}" for one in does] + ended(call, returned, written))
 
 
-def written_out(call, lines):
+def written_out(call: Call, lines: list[str]) -> str:
     return "\n".join([*c.wrapped(f"int u16550_{call.name}({call.takes})"), "{", *lines, "}", ""])
 
 
-def lines_of_config(call, taken, passed):
+def lines_of_config(call: Call, taken: list[Value], passed: list[str]) -> list[str]:
     """What a function over a configuration does. There is nothing to enter and to leave."""
     tests, value = [], "found"
     if call.error:
@@ -271,15 +299,15 @@ def lines_of_config(call, taken, passed):
     return [*lines, "    if (status == U16550_OK)", f"        *{call.gives} = {value};", "    return status;"]
 
 
-def ended(call, returned, written):
+def ended(call: Call, returned: str | None, written: list[tuple[str, str]]) -> list[str]:
     """The end of a function: what it writes, and what it returns."""
     if not written:
         return [f"    return uart_leave(uart, {returned or 'U16550_OK'});"]
     if call.stalls:
-        (to, value), = written
+        ((to, value),) = written
         return [f"    status = uart_leave(uart, {returned});", f"    if ({to} != NULL)", f"        *{to} = {value};", "    return status;"]
     if returned is None and len(written) == 1:
-        (to, value), = written
+        ((to, value),) = written
         return ["    uart_leave(uart, U16550_OK);", f"    *{to} = {value};", "    return U16550_OK;"]
     sets = [f"        *{to} = {value};" for to, value in written]
     brace, end = (" {", ["    }"]) if len(sets) > 1 else ("", [])

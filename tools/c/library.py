@@ -1,15 +1,24 @@
 """All functions that are asked for, and what they need, as one file of C."""
+from __future__ import annotations
+
 import dataclasses
 import re
+from collections.abc import Callable, Sequence
+from typing import TypeAlias
 
 import in_place
 import passes
 import syntax as c
-from body import NATIVE, OF_C, Body, Pair
-from names import snake
-from representation import NO_DEVICE, Representation, comment_of, safe
-from translate import Unknown, head
-from tree import DEVICE, OF_CALLER, PATIENCE, PORTS, Forest, SizeOf
+from body import NATIVE, OF_C, Body, InC, Pair, expression
+from names import Source, snake, sought
+from representation import NO_DEVICE, Kind, Representation, comment_of, safe
+from translate import Dictionary, Node, Program, Type, Types, Unknown, head
+from tree import DEVICE, OF_CALLER, PATIENCE, PORTS, Forest, Key, Static
+
+# Parameters that are one constant in each call, by their places.
+Known: TypeAlias = dict[int, c.Expression]
+# What has the value that a member of a struct has for ever, where it is read.
+Fixed: TypeAlias = Callable[[c.Expression], c.Expression]
 
 # What C has for a type that has to have a trait.
 OF_TRAITS = {
@@ -59,8 +68,13 @@ static inline bool uart_same_bytes(const uint8_t *one, const uint8_t *other, siz
 }
 # The functions for arithmetic that not every processor has an instruction for, by the operator and how many bits a number has. They are by hand
 # (layer_arithmetic.c).
-ARITHMETIC = {("/", 32): "uart_quotient_32", ("%", 32): "uart_rest_32", ("/", 64): "uart_quotient_64", ("%", 64): "uart_rest_64",
-              ("*", 64): "uart_product_64"}
+ARITHMETIC = {
+    ("/", 32): "uart_quotient_32",
+    ("%", 32): "uart_rest_32",
+    ("/", 64): "uart_quotient_64",
+    ("%", 64): "uart_rest_64",
+    ("*", 64): "uart_product_64",
+}
 # What moves items towards the front of their array. Of one loop gcc makes a call of memmove, around which a function has to keep its
 # registers: a tick takes 38 instructions then, and not 26. So many at once are as many as such an array of the chip has: gcc moves them by a
 # few registers, and calls nothing.
@@ -82,8 +96,14 @@ MOST_BYTES, MOST_STRUCTS = 64, 16
 # The functions whose second argument is the offset of a register, and the names of these.
 READ = dict(enumerate("DATA IER ISR LCR MCR LSR MSR SPR".split()))
 WRITTEN = {**READ, 2: "FCR"}
-OFFSETS = {"uart_device_read": READ, "uart_read_register": READ, "uart_device_write": WRITTEN, "uart_write_register": WRITTEN,
-           "uart_design_ware_load": READ, "uart_design_ware_store": WRITTEN}
+OFFSETS = {
+    "uart_device_read": READ,
+    "uart_read_register": READ,
+    "uart_device_write": WRITTEN,
+    "uart_write_register": WRITTEN,
+    "uart_design_ware_load": READ,
+    "uart_design_ware_store": WRITTEN,
+}
 
 
 # A compiler is told to put a function in the place of its calls up to so many lines, and up to so many if one of the calls is in a loop: it
@@ -92,17 +112,23 @@ OFFSETS = {"uart_device_read": READ, "uart_read_register": READ, "uart_device_wr
 SHORT, SHORT_IN_LOOP = 6, 10
 
 
+@dataclasses.dataclass(eq=False)
 class Written:
     """A function in C."""
 
-    def __init__(self, name, parameters, result, comment, proved):
-        self.name, self.parameters, self.result, self.comment, self.proved = name, parameters, result, comment, proved
-        # All parameters of the source, also those that are known, which C has not.
-        self.given = parameters
-        # Whether it is not to stand in the place of its calls.
-        self.statements, self.is_public, self.is_apart = [], False, False
+    name: str
+    parameters: list[c.Variable]
+    # All parameters of the source, also those that are known, which C has not.
+    given: list[c.Variable]
+    result: c.Type
+    comment: str
+    proved: list[str]
+    # Whether it is not to stand in the place of its calls.
+    is_apart: bool
+    is_public: bool = False
+    statements: list[c.Statement] = dataclasses.field(default_factory=list)
 
-    def publish(self, names):
+    def publish(self, names: list[str]) -> None:
         """Makes it one of the header, whose parameters have the names that they have there."""
         self.is_public = True
         if len(names) != len(self.parameters):
@@ -110,56 +136,70 @@ class Written:
         for one, name in zip(self.parameters, names):
             one.name = name
 
-    def called_in_loops(self):
+    def called_in_loops(self) -> set[str]:
         """The names of the functions that it calls in a loop."""
         loops = [one for one in c.all_statements(self.statements) if isinstance(one, (c.For, c.While, c.Loop))]
-        inside = [statement for loop in loops for statement in c.all_statements([loop])]
-        return {part.name for one in inside for whole in c.expressions(one) for part in c.every(whole) if isinstance(part, c.CallOf)}
+        return {part.name for part in c.all_parts(loops) if isinstance(part, c.CallOf)}
 
-    def text(self, in_loops, short, apart, words):
+    def text(self, in_loops: set[str], short: int, apart: str, words: dict[str, str]) -> str:
         """Its text. `in_loops` are the functions that are called in loops, `short` is how many lines a short one has at most, `apart` is what
         one is declared as that is not to stand in the place of its calls, and `words` has what is said of some by their names."""
         body = c.lines(self.statements)
         is_short = len(body) <= (max(short, SHORT_IN_LOOP) if self.name in in_loops else short)
-        word = words[self.name] if self.name in words else "" if self.is_public else apart if self.is_apart else "static inline" if is_short \
+        word = (
+            words[self.name]
+            if self.name in words
+            else ""
+            if self.is_public
+            else apart
+            if self.is_apart
+            else "static inline"
+            if is_short
             else "static"
-        first = top(word, self.result, self.name, [c.declared(one.of, one.name) for one in self.parameters])
+        )
+        first = top(word, self.result, self.name, [c.declared(one.of, one.known_name()) for one in self.parameters])
         return "\n".join([self.comment + "\n".join(first), "{", *body, "}", ""])
 
 
-def is_constant(value):
+def is_constant(value: c.Expression | None) -> bool:
     """Whether a value is a constant of an enum, or true or false."""
     return isinstance(value, c.Word) and (value.of is c.BOOL or isinstance(value.of, c.Named) and value.of.name.startswith("enum "))
 
 
-def is_known(value):
+def is_known(value: c.Expression) -> bool:
     """Whether a value is such a constant, or a struct that is made of such."""
     if isinstance(value, c.CallOf):
         return value.is_pure and value.fields is not None and all(map(is_known, value.arguments))
     return is_constant(value)
 
 
-def is_power_of_two(one):
-    """Whether an operand is a number by which a compiler multiplies and divides with shifts."""
-    return isinstance(one, c.Literal) and one.value & (one.value - 1) == 0 and one.value > 0
-
-
-def with_arithmetic(one):
+def with_arithmetic(one: c.Expression) -> c.Expression:
     """A product, a quotient or a rest by the function for it."""
     if not isinstance(one, c.Binary) or not isinstance(one.of, c.Number) or one.of.text() == "size_t":
         return one
     name = ARITHMETIC.get((one.operator, one.of.bits))
-    if name is None or is_power_of_two(one.right) or one.operator == "*" and is_power_of_two(one.left):
+    if name is None or passes.is_power_of_two(one.right) or one.operator == "*" and passes.is_power_of_two(one.left):
         return one
     return c.CallOf(name, [one.left, one.right], one.of, True, (one.of, one.of))
 
 
-def without_destructors(key):
+def constants_in(value: c.Expression) -> list[c.Word]:
+    """The constants that a struct is made of."""
+    parts = (value.fields or {}).values() if isinstance(value, c.CallOf) else []
+    return [one for one in parts if isinstance(one, c.Word)]
+
+
+def with_arguments(value: c.Expression, parameters: list[c.Variable], arguments: list[c.Expression]) -> c.Expression:
+    """What a call stands for, with its arguments in the place of the parameters."""
+    return c.rebuilt(value, lambda part: arguments[parameters.index(part.variable)] if isinstance(part, c.Var) else part)
+
+
+def without_destructors(key: Key) -> Key:
     """A key without what says of types that nothing is to be done at their end: each crate says it by a name of its own."""
-    return (*key[:2], tuple(one for one in key[2] if not one[0].endswith("::Destruct++none")))
+    return (key[0], key[1], tuple(one for one in key[2] if not one[0].endswith("::Destruct++none")))
 
 
-def top(word, result, name, parameters):
+def top(word: str, result: c.Type, name: str, parameters: Sequence[str]) -> list[str]:
     """The lines of the top of a function."""
     given = ", ".join(parameters) or "void"
     whole = f"{word} {c.declared(result, name)}({given})".lstrip()
@@ -173,70 +213,86 @@ class Library:
     that of another one. `known` has the parameters that are one constant in all calls, which are left out: by the key of the function and
     the place among its parameters, the constant."""
 
-    def __init__(self, program, source, public, own, prefix, names=None, known=None):
+    def __init__(
+        self,
+        program: Program,
+        source: Source,
+        public: dict[Type, str],
+        own: Sequence[str],
+        prefix: str,
+        names: dict[Key, str] | None = None,
+        known: dict[Key, Known] | None = None,
+    ) -> None:
         self.forest = Forest(program, lambda name: name in NATIVE or name in OF_C, own)
         self.source, self.prefix, self.names = source, prefix, names or {}
         self.types = Representation(self.forest, source, public)
-        self.functions, self.order, self.failed, self.exports = {}, [], [], {}
-        self.makers, self.helpers, self.bits, self.offsets, self.statics = {}, set(), {}, {}, {}
+        # By its key each function, or None as long as it is translated; and those that are, in order.
+        self.functions, self.order = dict[Key, Written | None](), list[Written]()
+        # The name in the header, and those of the parameters there, by the function's name in the MIR.
+        self.exports = dict[str, tuple[str, list[str]]]()
+        # What makes structs: its text by its name and the constants that it puts in.
+        self.makers, self.helpers = dict[tuple[str, tuple[tuple[str, str], ...]], str](), set[str]()
+        self.bits, self.offsets, self.statics = dict[str, int](), dict[str, int](), dict[tuple[int, ...], str]()
         # The functions that move items, by their names.
-        self.movers = {}
+        self.movers = dict[str, str]()
         # What the header calls the offsets of registers that are read, and of those that are written; and the numbers that functions return.
-        self.registers, self.returned = None, {}
-        self.short, self.apart, self.words = SHORT, "static", {}
+        self.registers, self.returned = list[dict[int, str]](), dict[int, str]()
+        self.short, self.apart, self.words = SHORT, "static", dict[str, str]()
         # Keys of one function by what they have in common, and the functions that only compute.
-        self.same, self.quiet = {}, set()
+        self.same, self.quiet = dict[Key, Key](), set[str]()
         # The members of structs that have one value for ever, by the struct and the name: that value, or None if nobody reads it. Writes of
         # them go.
-        self.fixed = {}
+        self.fixed = dict[tuple[str, str], Fixed | None]()
         # The calls that are made in the place of those which only pass on their arguments, and parameters that nothing reads any more.
-        self.passed_on, self.unread, self.instead = set(), {}, {}
+        self.passed_on, self.unread = set[str](), dict[str, set[int]]()
+        self.instead = dict[str, tuple[c.Expression, list[c.Variable]]]()
         # More structs that are made where they are returned.
-        self.large = set()
+        self.large = set[str]()
         # What is known of a function, by its name; and what stands in the place of its calls, if that is one value or one call.
-        self.known, self.known_of, self.stands_for = known or {}, {}, {}
+        self.known, self.known_of = known or {}, dict[str, Known]()
+        self.stands_for = dict[str, tuple[c.Expression, list[c.Variable]]]()
 
-    def export(self, function, name, parameters):
+    def export(self, function: str, name: str, parameters: list[str]) -> None:
         """A function of the header: its name there, and those of its parameters."""
         self.exports[function] = (name, parameters)
 
     # What is asked for.
 
-    def want(self, name):
-        """Translates a function of our crates over the device. Returns its C name, or None if it cannot be."""
+    def want(self, name: str) -> Written:
+        """Translates a function of our crates over the device."""
         generics = self.forest.program.functions[name]["generics"]
-        types = [DEVICE for _ in generics["types"]]
+        given: list[Type] = [DEVICE for _ in generics["types"]]
         for one in generics["bounds"]:
             if one["of"] in OF_TRAITS:
-                types[one["types"][0]["Param"]] = OF_TRAITS[one["of"]]
-        types = tuple(types)
+                given[one["types"][0]["Param"]] = OF_TRAITS[one["of"]]
+        types = tuple(given)
         dictionaries = tuple(self.dictionary_for(one["of"], types) for one in generics["bounds"])
         return self.function((name, types, dictionaries))
 
     @staticmethod
-    def dictionary_for(trait, types):
+    def dictionary_for(trait: str, types: Types) -> Dictionary:
         if trait in OF_TRAITS:
             return (OF_CALLER + trait, (), ())
         if trait.endswith("marker::Destruct"):
             return ("Destruct of nothing", types, ())
         raise Unknown(f"a function over {trait}")
 
-    def function(self, key):
+    def function(self, key: Key) -> Written:
         """The function of a key, which is translated with all that it calls, before it."""
         key = self.same.setdefault(without_destructors(key), key)
         if key not in self.functions:
             self.functions[key] = None
             body = Body(self, key)
-            parameters = [one for item in body.parameters if item is not None
-                          for one in ([item.pointer, item.length] if isinstance(item, Pair) else [item])]
+            parameters = [
+                one for item in body.parameters if item is not None for one in ([item.pointer, item.length] if isinstance(item, Pair) else [item])
+            ]
             info = body.information
             is_public = key[0] in self.exports
             # What is proved of a function of the header is said there.
             proved = [] if is_public else self.source.proved(info)
             known = self.known.get(key, {})
             comment = comment_of([*info.comment, *self.told_of(known, parameters)], proved=proved) if info else ""
-            written = Written(self.name_of(key), parameters, body.result, comment, proved)
-            written.is_apart = info is not None and info.is_apart
+            written = Written(self.name_of(key), parameters, parameters, body.result, comment, proved, info is not None and info.is_apart)
             if is_public:
                 written.publish(self.exports[key[0]][1])
             self.put_known(body.statements, written, known)
@@ -270,30 +326,28 @@ class Library:
             passes.on_expressions(written.statements, with_arithmetic)
             name_variables(body, written)
             if self.registers:
-                self.name_registers(written)
+                self.name_registers(written, *self.registers)
             parameters = written.parameters
             value = passes.only_value(written.statements, parameters)
             if self.exports and not is_public and value is not None and (known or is_constant(value)):
                 self.known_of[written.name], self.stands_for[written.name] = known, (value, parameters)
-            passes.declare(written.statements, parameters)
+            passes.declare(written.statements)
             written.statements[:0] = passes.unread(written.statements, parameters)
             self.functions[key] = written
             self.order.append(written)
-        if self.functions[key] is None:
+        found = self.functions[key]
+        if found is None:
             raise Unknown(f"{key[0]} calls itself, or a function that could not be translated")
-        return self.functions[key]
+        return found
 
     # What is known of parameters.
 
-    def constants(self):
+    def constants(self) -> dict[Key, Known]:
         """The parameters that are one constant of an enum in all calls: as `known`."""
-        calls, found = {}, {}
-        for one in self.order:
-            for statement in c.all_statements(one.statements):
-                for whole in c.expressions(statement):
-                    for part in c.every(whole):
-                        if isinstance(part, c.CallOf):
-                            calls.setdefault(part.name, []).append(part.arguments)
+        calls, found = dict[str, list[list[c.Expression]]](), dict[Key, Known]()
+        for part in (part for one in self.order for part in c.all_parts(one.statements)):
+            if isinstance(part, c.CallOf):
+                calls.setdefault(part.name, []).append(part.arguments)
         for key, written in self.functions.items():
             if written is None or written.is_public:
                 continue
@@ -305,21 +359,22 @@ class Library:
                     found.setdefault(key, {})[order] = values[0]
         return found
 
-    def told_of(self, known, parameters):
+    def told_of(self, known: Known, parameters: list[c.Variable]) -> list[str]:
         """What a comment says of parameters that are left out."""
         out = [""] if known else []
         for order, value in known.items():
             # Of a struct that is made of constants the last one says what it is.
-            word = value if isinstance(value, c.Word) else [one for one in value.fields.values() if isinstance(one, c.Word)][-1]
-            shown = word.name.removeprefix(word.of.name.removeprefix("enum ").upper() + "_").replace("_", " ").lower()
+            *_, word = [value] if isinstance(value, c.Word) else constants_in(value)
+            kind = word.of.name if isinstance(word.of, c.Named) else ""
+            shown = word.name.removeprefix(kind.removeprefix("enum ").upper() + "_").replace("_", " ").lower()
             out.append(f"The {parameters[order].name} is {shown} in each call, and so it is left out.")
         return out
 
-    def put_known(self, statements, written, known):
+    def put_known(self, statements: list[c.Statement], written: Written, known: Known) -> None:
         """Puts the constants in the place of parameters, which go."""
         constants = {written.parameters[order]: value for order, value in known.items()}
 
-        def change(one):
+        def change(one: c.Expression) -> c.Expression:
             return constants.get(one.variable, one) if isinstance(one, c.Var) else one
 
         if known:
@@ -327,20 +382,21 @@ class Library:
             written.parameters = [one for one in written.parameters if one not in constants]
             self.known_of[written.name] = known
 
-    def put_members(self, statements):
+    def put_members(self, statements: list[c.Statement]) -> None:
         """Puts their values in the place of members that are known, and leaves out what is written to them."""
         if not self.fixed:
             return
 
-        def key_of(one):
+        def key_of(one: c.Expression) -> tuple[str, str] | None:
             return (one.base.of.text(), one.name) if isinstance(one, c.Field) else None
 
-        def change(one):
-            value = self.fixed.get(key_of(one))
+        def change(one: c.Expression) -> c.Expression:
+            key = key_of(one)
+            value = self.fixed.get(key) if key else None
             return passes.simpler(value(one) if value else one)
 
         for body in passes.every_list(statements):
-            out = []
+            out = list[c.Statement]()
             for one in body:
                 if isinstance(one, c.Set) and key_of(one.to) in self.fixed:
                     out += map(c.Do, passes.outer_calls(one.value))
@@ -349,10 +405,11 @@ class Library:
             body[:] = out
         passes.on_expressions(statements, change)
 
-    def leave_out_unread(self, written):
+    def leave_out_unread(self, written: Written) -> None:
         """Leaves out what is given for parameters that nothing reads, and puts in the place of a call what it only passes its arguments on
         to, or the number that it is."""
-        def change(one):
+
+        def change(one: c.Expression) -> c.Expression:
             if not isinstance(one, c.CallOf):
                 return one
             left = [order for order in range(len(one.arguments)) if order not in self.unread.get(one.name, ())]
@@ -360,13 +417,12 @@ class Library:
             if any(passes.outer_calls(each) for order, each in enumerate(one.arguments) if order not in left):
                 raise Unknown(f"a call of {one.name} with one that would be left out")
             if one.name in self.instead:
-                value, parameters = self.instead[one.name]
-                return c.rebuilt(value, lambda part: arguments[parameters.index(part.variable)] if isinstance(part, c.Var) else part)
+                return with_arguments(*self.instead[one.name], arguments)
             return dataclasses.replace(one, arguments=arguments, expects=tuple(one.expects[order] for order in left) if one.expects else ())
 
         passes.on_expressions(written.statements, change)
 
-    def note_unread(self, written):
+    def note_unread(self, written: Written) -> None:
         """Leaves out the parameters that nothing reads, and notes of a function whether another one stands in the place of its calls."""
         reads = passes.Facts(written.statements).reads
         gone = {order for order, one in enumerate(written.parameters) if not reads.get(one)}
@@ -377,20 +433,20 @@ class Library:
         if isinstance(value, c.Literal) or isinstance(value, c.CallOf) and value.name in self.passed_on:
             self.instead[written.name] = value, list(written.parameters)
 
-    def is_constant_call(self, call):
+    def is_constant_call(self, call: c.CallOf) -> bool:
         """Whether a call stands for a constant, and has no argument that is known."""
-        value, _ = self.stands_for.get(call.name, (None, ()))
+        value = self.stands_for[call.name][0] if call.name in self.stands_for else None
         return isinstance(value, c.Word) and not self.known_of.get(call.name)
 
-    def leave_out_known(self, statements, which=lambda call: True):
+    def leave_out_known(self, statements: list[c.Statement], which: Callable[[c.CallOf], bool] = lambda call: True) -> bool:
         """Leaves out the arguments that are known of these calls, and puts what a call stands for in its place. Returns whether there was
         one."""
         found = False
 
-        def change(one):
+        def change(one: c.Expression) -> c.Expression:
             nonlocal found
             known = self.known_of.get(one.name) if isinstance(one, c.CallOf) and which(one) else None
-            if known is None:
+            if not isinstance(one, c.CallOf) or known is None:
                 return one
             found = True
             for order, value in known.items():
@@ -398,23 +454,21 @@ class Library:
                     raise Unknown(f"a call of {one.name} without {c.text(value)}")
             left = [order for order in range(len(one.arguments)) if order not in known]
             arguments = [one.arguments[order] for order in left]
-            value, parameters = self.stands_for.get(one.name, (None, ()))
+            stands = self.stands_for.get(one.name)
             # A constant takes no arguments, so none of them may be a call that does something.
-            if isinstance(value, c.Word) and any(isinstance(part, c.CallOf) and not part.is_pure for each in arguments for part in c.every(each)):
-                value = None
-            if value is not None:
-                return c.rebuilt(value, lambda part: arguments[parameters.index(part.variable)] if isinstance(part, c.Var) else part)
+            if stands and not (isinstance(stands[0], c.Word) and any(map(passes.outer_calls, arguments))):
+                return with_arguments(*stands, arguments)
             return dataclasses.replace(one, arguments=arguments, expects=tuple(one.expects[order] for order in left))
 
         passes.on_expressions(statements, change)
         return found
 
-    def name_of(self, key):
+    def name_of(self, key: Key) -> str:
         if key[0] in self.exports:
             return self.exports[key[0]][0]
         return self.names.get(key) or self.plain_name_of(key)
 
-    def plain_name_of(self, key):
+    def plain_name_of(self, key: Key) -> str:
         path = key[0].split("::")
         name = snake(path[-1].replace("+", "_"))
         of = self.name_of_type(path[0], path[-2]) if path[-2][:1].isupper() else ""
@@ -428,16 +482,16 @@ class Library:
         inner = [self.types.bare_name(one) for one in key[1] if one not in (DEVICE, PATIENCE, PORTS) and one[0] != "Num"]
         return re.sub(r"\W", "_", "_".join(["uart", of or path[-2], name, *inner]))
 
-    def name_of_type(self, crate, name):
+    def name_of_type(self, crate: str, name: str) -> str:
         """The name of the type of an implementation."""
         of = self.source.type_of(crate, name)
-        is_of_trait = of and of != name and name[len(of):] in self.source.traits
-        return re.sub("^uart(16550)?_?", "", snake(of if is_of_trait else re.sub(r"[+].*", "", name)))
+        shown = of if of and of != name and name[len(of) :] in self.source.traits else re.sub(r"[+].*", "", name)
+        return re.sub("^uart(16550)?_?", "", snake(shown))
 
-    def clashes(self):
+    def clashes(self) -> dict[Key, str]:
         """Names for the functions that would have one with another: a method has its name before that of its type, another function has that
         of its module, and where that is not enough the types that it is over."""
-        plain, out = {}, {}
+        plain, out = dict[str, list[Key]](), dict[Key, str]()
         for key in self.functions:
             name = self.exports[key[0]][0] if key[0] in self.exports else self.plain_name_of(key)
             plain.setdefault(name, []).append(key)
@@ -450,7 +504,7 @@ class Library:
                     out[key] = f"{out.get(key, name)}_of"
         return out
 
-    def longer_name(self, key, name, keys):
+    def longer_name(self, key: Key, name: str, keys: list[Key]) -> str:
         """A name for a function that has this one with others."""
         crate, *_, module, method = key[0].split("::")
         if module[:1].isupper():
@@ -465,47 +519,46 @@ class Library:
 
     # What bodies ask for.
 
-    def call(self, key, arguments, body):
+    def call(self, key: Key, arguments: list[InC], body: Body) -> c.CallOf:
         if key[0] not in self.forest.program.functions:
             raise Unknown(f"no function {key[0]}")
         written = self.function(key)
-        flat = []
+        given = list[c.Expression]()
         for one in arguments:
-            flat += [one.pointer, one.length] if isinstance(one, Pair) else [] if one is None else [one]
-        if len(flat) != len(written.given):
-            raise Unknown(f"{len(flat)} arguments for {written.name}")
-        for order, (one, parameter) in enumerate(zip(flat, written.given)):
-            body.join(one, c.Var(parameter), "=")
-            if isinstance(one, c.Literal):
-                flat[order] = self.with_names(one, parameter.meaning)
-        return c.CallOf(written.name, flat, written.result, expects=tuple(one.of for one in written.given))
+            given += [one.pointer, one.length] if isinstance(one, Pair) else [] if one is None else [expression(one)]
+        if len(given) != len(written.given):
+            raise Unknown(f"{len(given)} arguments for {written.name}")
+        for order, (value, parameter) in enumerate(zip(given, written.given)):
+            body.join(value, c.Var(parameter), "=")
+            if isinstance(value, c.Literal):
+                given[order] = self.with_names(value, parameter.meaning)
+        return c.CallOf(written.name, given, written.result, expects=tuple(one.of for one in written.given))
 
-    def with_register(self, one):
+    def with_register(self, one: c.Expression) -> c.Expression:
         """A call with the name of a register in place of its offset."""
         if isinstance(one, c.CallOf) and len(one.arguments) > 1 and isinstance(one.arguments[1], c.Literal) and one.name in OFFSETS:
             offset = self.register(one.arguments[1], OFFSETS[one.name])
             return c.CallOf(one.name, [one.arguments[0], offset, *one.arguments[2:]], one.of, one.is_pure, one.expects, one.fields)
         return one
 
-    def is_large(self, of):
+    def is_large(self, of: c.Type) -> bool:
         """Whether a type of C is a large struct."""
         structs = in_place.large(self.types.declarations, LARGE | self.large)
         return isinstance(of, c.Named) and of.name.removeprefix("struct ") in structs
 
-    def name_registers(self, written):
+    def name_registers(self, written: Written, read: dict[int, str], set_to: dict[int, str]) -> None:
         """Names the registers with which an offset is compared."""
-        is_written = any(one.name == "value" for one in written.parameters)
-        names = self.registers[1 if is_written else 0]
+        names = set_to if any(one.name == "value" for one in written.parameters) else read
 
-        def is_offset(one):
+        def is_offset(one: c.Expression) -> bool:
             while isinstance(one, c.Cast):
                 one = one.operand
             return isinstance(one, c.Var) and one.variable.name == "offset"
 
-        def named(one):
+        def named(one: c.Expression) -> c.Expression:
             return c.Literal(one.value, one.of, (names[one.value],)) if isinstance(one, c.Literal) and one.value in names else one
 
-        def change(one):
+        def change(one: c.Expression) -> c.Expression:
             if isinstance(one, c.Binary) and one.operator in ("==", "!=") and is_offset(one.left):
                 return c.Binary(one.operator, one.left, named(one.right), one.of)
             return one
@@ -514,24 +567,29 @@ class Library:
         for one in c.all_statements(written.statements):
             if isinstance(one, c.Switch) and is_offset(one.on):
                 one.cases = [(numbers and list(map(named, numbers)), body) for numbers, body in one.cases]
-            if isinstance(one, c.Return) and isinstance(one.value, c.Literal) and written.is_public and one.value.value in self.returned \
-                    and written.result.text() == "uint32_t":
+            if (
+                isinstance(one, c.Return)
+                and isinstance(one.value, c.Literal)
+                and written.is_public
+                and one.value.value in self.returned
+                and written.result.text() == "uint32_t"
+            ):
                 one.value = c.Literal(one.value.value, one.value.of, (self.returned[one.value.value],))
 
-    def helper(self, name, arguments, of):
+    def helper(self, name: str, arguments: list[c.Expression], of: c.Type) -> c.CallOf:
         self.helpers.add(name)
         return c.CallOf(name, arguments, of)
 
-    def move_down(self, items, places):
+    def move_down(self, items: c.Expression, places: list[c.Expression]) -> c.CallOf:
         """The call that moves items towards the front of their array: from where, to where, and how many."""
-        item = items.of.to.text()
+        item = c.pointed(items.of).text()
         is_byte = item == "uint8_t"
         name = f"uart_move_down_{'byte' if is_byte else re.sub(r'^struct (uart_|u16550_)?', '', item)}s"
         shown = MOVE_DOWN.replace("MOST", str(MOST_BYTES if is_byte else MOST_STRUCTS)).replace("NAME", name).replace("ITEM", item)
         self.movers[name] = shown.replace("items towards", f"{'bytes' if is_byte else name.rsplit('_', 1)[1]} towards")
         return c.CallOf(name, [items, *places], c.VOID)
 
-    def register(self, literal, table):
+    def register(self, literal: c.Literal, table: dict[int, str]) -> c.Literal:
         """The offset of a register by its name."""
         name = table.get(literal.value)
         if name is None:
@@ -539,7 +597,7 @@ class Library:
         self.offsets[name] = literal.value
         return c.Literal(literal.value, literal.of, (f"UART_{name}",))
 
-    def with_names(self, literal, of):
+    def with_names(self, literal: c.Literal, of: Type) -> c.Literal:
         """A number of a register by the names of its bits. Together they are the number, or it stays one."""
         if literal.names or not isinstance(of, tuple) or of[0] != "Named" or not literal.value:
             return literal
@@ -554,7 +612,7 @@ class Library:
             self.bits[f"{self.prefix}_{register}_{name}"] = bits[name]
         return c.Literal(literal.value, literal.of, tuple(f"{self.prefix}_{register}_{name}" for name in names))
 
-    def size_of(self, item):
+    def size_of(self, item: c.Type) -> int | None:
         """How many bytes a number has in the MIR, or a struct of bytes."""
         if isinstance(item, c.Number):
             return item.bits // 8
@@ -565,7 +623,7 @@ class Library:
         are_bytes = all(self.types.c(inner).text() == "uint8_t" for _, inner in fields)
         return len(fields) if are_bytes else None
 
-    def static(self, value, function):
+    def static(self, value: Static, function: str) -> c.Word:
         """A constant array, as a pointer to its first item."""
         kind, inner = head(value.node)
         if kind == "Parts" and all(head(one)[0] == "Int" for one in inner):
@@ -583,7 +641,7 @@ class Library:
             self.statics[key] = f"uart_{base}_bytes{count + 1 if count else ''}"
         return c.Word(self.statics[key], c.Pointer(c.BYTE, True))
 
-    def all_bits(self, key):
+    def all_bits(self, key: Key) -> int:
         """The bits that `Flags::all` joins: those of the table in the MIR."""
         dictionary = key[2][0]
         name = self.forest.program.methods.get((dictionary[0], 0))
@@ -595,7 +653,7 @@ class Library:
 
     # Structs.
 
-    def made(self, of, tag, fields):
+    def made(self, of: Type, tag: int | str | None, fields: Sequence[tuple[str, c.Expression]]) -> c.CallOf:
         """A call of the function that makes a struct of these parts."""
         if of[0] == "Named" and of[1] == "core::ops::ControlFlow":
             raise Unknown("a ControlFlow that is made")
@@ -613,16 +671,21 @@ class Library:
         if key not in self.makers:
             self.makers[key] = self.maker_text(maker, of, made, variable, fixed)
         types = self.types_of_members(of)
-        return c.CallOf(maker, [value for _, value in variable], made, True,
-                        tuple(types.get(field, one) for (field, _), one in zip(variable, expects)),
-                        {**dict(fields), **{field: order for order, (field, _) in enumerate(variable)}})
+        return c.CallOf(
+            maker,
+            [value for _, value in variable],
+            made,
+            True,
+            tuple(types.get(field, one) for (field, _), one in zip(variable, expects)),
+            {**dict(fields), **{field: order for order, (field, _) in enumerate(variable)}},
+        )
 
-    def maker_name(self, of, kind, tag, name):
+    def maker_name(self, of: Type, kind: Kind, tag: int | str | None, name: str) -> str:
         bare = re.sub(r"^(uart|u16550_core|u16550)_", "", name)
         if kind.kind == "option":
             bare = bare.removeprefix("maybe_")
-            is_full = tag == kind.parts[1]
-            if kind.parts[2] == "is_error":
+            is_full = tag == kind.full
+            if kind.flag == "is_error":
                 return f"uart_{'failed' if is_full else 'no'}_{bare}"
             return f"uart_{'some' if is_full else 'no'}_{bare}"
         if kind.kind in ("outcome", "either"):
@@ -631,25 +694,29 @@ class Library:
             return f"uart_make_{bare}"
         return f"uart_{bare}_{tag if isinstance(tag, str) else snake(self.types.variants(of)[tag][0])}"
 
-    def members(self, of):
+    def members(self, of: Type) -> list[tuple[str, Type]]:
         """The members of the struct of C: name and type of the MIR, or of C."""
         kind = self.types.kind(of)
         if kind.kind == "option":
-            return [(kind.parts[2], "Bool"), (kind.parts[3], kind.parts[0])]
+            return [(kind.flag, "Bool"), (kind.member, kind.value)]
         if kind.kind == "outcome":
-            return [("error", kind.parts[1]), ("value", kind.parts[0])]
+            return [("error", kind.error), ("value", kind.value)]
         if kind.kind == "either":
-            return [("is_error", "Bool"), ("error", kind.parts[1]), ("value", kind.parts[0])]
+            return [("is_error", "Bool"), ("error", kind.error), ("value", kind.value)]
         if kind.kind == "tagged":
-            return [("kind", ("Kind", of))] + [(self.types.part_name(of, tag, order), one) for tag, (_, _, part) in enumerate(self.types.variants(of))
-                                              for order, one in enumerate(part) if not self.types.is_unit(one)]
+            return [("kind", ("Kind", of))] + [
+                (self.types.part_name(of, tag, order), one)
+                for tag, (_, _, part) in enumerate(self.types.variants(of))
+                for order, one in enumerate(part)
+                if not self.types.is_unit(one)
+            ]
         if kind.kind == "slice":
-            return [("data", kind.parts[0]), ("len", ("Int", 64))]
+            return [("data", kind.value), ("len", ("Int", 64))]
         return [(name, inner) for name, inner in self.types.fields(of) if not self.types.is_unit(inner)]
 
-    def types_of_members(self, of):
-        out = {}
-        for order, (name, inner) in enumerate(self.members(of)):
+    def types_of_members(self, of: Type) -> dict[str, c.Type]:
+        out = dict[str, c.Type]()
+        for name, inner in self.members(of):
             if inner[0] == "Kind":
                 out[name] = self.types.tag(of)
             else:
@@ -657,10 +724,10 @@ class Library:
                 out[name] = c.Pointer(c.BYTE) if inner == "Ptr" else self.types.c(inner, is_size)
         return out
 
-    def size_member(self, of, name):
+    def size_member(self, of: Type, name: str) -> bool:
         return any(field == name and self.types.is_size(of, order) for order, (field, _) in enumerate(self.types.fields(of)))
 
-    def zero(self, of, whole=None):
+    def zero(self, of: Type) -> str:
         """The text of a value of which all is zero."""
         if of[0] == "Kind":
             first = self.types.constants(of[1])[0].split("=")[0].strip()
@@ -673,18 +740,18 @@ class Library:
         if kind.kind in ("pointer", "nullable"):
             return "NULL"
         if kind.kind == "status":
-            return self.zero(kind.parts[0])
+            return self.zero(kind.error)
         if kind.kind == "array":
             return "{ { 0 } }"
         if kind.kind == "enum":
             return self.types.constants(of)[0].split("=")[0].strip()
-        if kind.kind == "option" and self.types.is_unit(kind.parts[0]):
+        if kind.kind == "option" and self.types.is_unit(kind.value):
             return "false"
         if kind.kind == "device":
             return NO_DEVICE
         return "{ " + ", ".join(self.zero(inner) for _, inner in self.members(of)) + " }"
 
-    def maker_text(self, maker, of, made, variable, fixed):
+    def maker_text(self, maker: str, of: Type, made: c.Type, variable: Sequence[tuple[str, c.Expression]], fixed: dict[str, str]) -> str:
         types = self.types_of_members(of)
         given = [(safe(field), types[field]) for field, _ in variable]
         values = []
@@ -699,21 +766,21 @@ class Library:
         second = c.wrapped(f"    {c.declared(made, 'made')} = {{ {', '.join(values)} }};")
         return "\n".join([*first, "{", *second, "    return made;", "}", ""])
 
-    def slice_of(self, pair):
+    def slice_of(self, pair: Pair[c.Expression]) -> c.CallOf:
         """A slice as the struct of C."""
         inner = pair.pointer.of
-        if not (isinstance(inner.to, c.Number) and inner.to.bits == 8):
-            raise Unknown(f"a slice of {inner.to.text()} in a struct")
+        if not (isinstance(inner, c.Pointer) and isinstance(inner.to, c.Number) and inner.to.bits == 8):
+            raise Unknown(f"a slice in a struct, behind {inner.text()}")
         of = ("Struct", "&[]", (("Ref", ("Int", 8), not inner.is_const), ("Int", 64)))
         return self.made(of, None, [("data", pair.pointer), ("len", pair.length)])
 
-    def no_error(self, of):
+    def no_error(self, of: Type) -> c.Expression:
         none = c.Word(self.types.constant(of, None), self.types.c(of))
         if self.types.kind(of).kind == "enum":
             return none
         return self.made(of, "none", [("kind", none)])
 
-    def is_error(self, one, of):
+    def is_error(self, one: c.Expression, of: Type) -> c.Binary:
         none = self.types.constant(of, None)
         if self.types.kind(of).kind == "enum":
             return c.Binary("!=", one, c.Word(none, one.of), c.BOOL)
@@ -722,23 +789,20 @@ class Library:
 
     # Text.
 
-    def called(self):
+    def called(self) -> list[Written]:
         """The functions without those whose calls have gone on the way."""
-        in_loops, out, text = self.called_in_loops(), [], "" if self.exports else None
+        in_loops, out, text = self.called_in_loops(), list[Written](), "" if self.exports else None
         for one in reversed(self.order):
             if text is None or one.is_public or re.search(rf"\b{one.name}\(", text):
                 out.insert(0, one)
                 text = None if text is None else text + one.text(in_loops, self.short, self.apart, self.words)
         return out
 
-    def called_in_loops(self):
+    def called_in_loops(self) -> set[str]:
         """The names of the functions that are called in loops."""
         return {name for one in self.order for name in one.called_in_loops()}
 
-    def declarations(self):
-        return [text for _, text in self.types.declarations]
-
-    def text(self):
+    def text(self) -> str:
         """The functions with what they need, without what the header has."""
         out = [HELPERS[name] for name in sorted(self.helpers)]
         for values, name in self.statics.items():
@@ -748,21 +812,23 @@ class Library:
         functions = "\n".join(one.text(in_loops, self.short, self.apart, self.words) for one in self.called())
         out += [text for name, text in sorted(self.movers.items()) if f"{name}(" in functions]
         # What was made on the way and is gone again has left makers that nobody calls.
-        makers, called = [], functions
+        makers, called = list[str](), functions
         for text in reversed(list(self.makers.values())):
-            name = re.search(r"\b(uart_\w+)\(", text)[1]
+            name = sought(r"\b(uart_\w+)\(", text)[1]
             if re.search(rf"\b{name}\(", called):
                 makers.insert(0, text)
                 called += text
         return "\n".join([*out, *makers, functions])
 
 
-def table_of_bits(statics):
+def table_of_bits(statics: list[Node]) -> int:
     """The bits of a table: each entry is a name and a value."""
     found = []
 
-    def go(node):
-        kind, value = head(node) if isinstance(node, (dict, str)) else (None, None)
+    def go(node: Node) -> None:
+        if not isinstance(node, (dict, str)):
+            return
+        kind, value = head(node)
         if kind == "Int" and value["width"] == 8:
             found.append(value["value"])
         elif kind == "Parts":
@@ -781,20 +847,16 @@ def table_of_bits(statics):
 
 # Names of variables.
 
-def name_variables(body, written):
+
+def name_variables(body: Body, written: Written) -> None:
     """The names of the source for the locals, in order; else one that says what it is."""
-    taken = {one.name for one in written.parameters} | {one.name for one in written.parameters if one.name}
+    taken = {one.name for one in written.parameters}
     names = names_by_order(body)
-    found = []
-    for one in c.all_statements(written.statements):
-        for expression in c.expressions(one):
-            for part in c.every(expression):
-                if isinstance(part, c.Var) and part.variable.name is None and part.variable not in found:
-                    found.append(part.variable)
+    unnamed = [part.variable for part in c.all_parts(written.statements) if isinstance(part, c.Var) and part.variable.name is None]
     hints = hints_of_calls(written.statements)
-    for variable in found:
+    for variable in dict.fromkeys(unnamed):
         origin = body.tree.origin[variable.local] if 0 <= variable.local < len(body.tree.origin) else None
-        base = names.get(origin)
+        base = names.get(origin) if origin is not None else None
         if base and variable.hint == "len":
             base += "_len"
         base = base or hints.get(variable) or variable.hint or by_type(body, variable)
@@ -807,7 +869,7 @@ def name_variables(body, written):
         variable.name = name
 
 
-def names_by_order(body):
+def names_by_order(body: Body) -> dict[int, str]:
     out, at = {}, body.tree.params + 1
     for name in body.information.bindings if body.information else []:
         while at < body.tree.own and is_hidden(body, body.tree.locals[at], name):
@@ -822,15 +884,15 @@ def names_by_order(body):
     return out
 
 
-def is_hidden(body, of, name):
+def is_hidden(body: Body, of: Type, name: str) -> bool:
     if name == "?":
         return False
     is_residual = of[0] == "Named" and of[1].endswith(("NoValue", "ErrResidual"))
-    return of == "Unit" or is_residual or of[0] == "Ref" and of[1][0] == "Array"
+    return bool(of == "Unit" or is_residual or of[0] == "Ref" and of[1][0] == "Array")
 
 
-def hints_of_calls(statements):
-    out = {}
+def hints_of_calls(statements: list[c.Statement]) -> dict[c.Variable, str]:
+    out = dict[c.Variable, str]()
     for one in c.all_statements(statements):
         if isinstance(one, c.Set) and isinstance(one.to, c.Var) and isinstance(one.value, c.CallOf) and isinstance(one.to.of, c.Number):
             name = re.sub(r"^uart_(ring_)?", "", one.value.name)
@@ -839,16 +901,26 @@ def hints_of_calls(statements):
     return out
 
 
-def by_type(body, variable):
+def by_type(body: Body, variable: c.Variable) -> str:
     of = variable.meaning
     if of is None:
         return "found"
     kind = body.types.kind(of).kind
     if body.types.plain_name(of).startswith("uart_pair_of"):
         return "pair"
-    named = {"number": "number", "bool": "is_so", "pointer": "at", "array": "bytes", "option": "found", "status": "error", "outcome": "outcome",
-             "either": "outcome", "nullable": "found", "slice": "slice"}
+    named = {
+        "number": "number",
+        "bool": "is_so",
+        "pointer": "at",
+        "array": "bytes",
+        "option": "found",
+        "status": "error",
+        "outcome": "outcome",
+        "either": "outcome",
+        "nullable": "found",
+        "slice": "slice",
+    }
     return named.get(kind) or re.sub(r"^(uart|u16550_core|u16550)_", "", body.types.plain_name(of))
 
 
-__all__ = ["Library", "SizeOf", "Unknown"]
+__all__ = ["Library", "Unknown"]

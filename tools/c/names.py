@@ -1,19 +1,37 @@
 """What the MIR has lost and the source still has: the names of fields, variants, parameters, locals and bits, and what is written about
 them. A wrong name is only ugly. No number is taken from here but to choose the names of bits, and the numbers of these are compared with
 that of the MIR."""
-import re
+from __future__ import annotations
 
+import dataclasses
+import pathlib
+import re
+from collections.abc import Callable, Iterable
+from typing import TypeAlias
+
+# Where a definition is: a crate, a module and its name there.
+Definition: TypeAlias = tuple[str, str, str]
+# What has a name in a crate.
+Named: TypeAlias = tuple[str, str]
 OPENING = {"(": ")", "{": "}", "[": "]"}
 
 
-def snake(name):
+def sought(pattern: str, text: str, flags: re.RegexFlag = re.NOFLAG) -> re.Match[str]:
+    """The first place of a pattern, which has to be there."""
+    found = re.search(pattern, text, flags)
+    if not found:
+        raise ValueError(f"{pattern!r} is not in {text[:80]!r}")
+    return found
+
+
+def snake(name: str) -> str:
     """A name of Rust as C has it."""
     if name.isupper():
         return name.lower()
     return re.sub(r"(?<=[a-z0-9])(?=[A-Z])|(?<=[A-Z])(?=[A-Z][a-z])", "_", name).lower()
 
 
-def closing(text, at):
+def closing(text: str, at: int) -> int:
     """Where the bracket that opens at `at` closes."""
     opened, closed, depth = text[at], OPENING[text[at]], 0
     for order in range(at, len(text)):
@@ -23,9 +41,9 @@ def closing(text, at):
     return len(text)
 
 
-def listed(text):
+def listed(text: str) -> list[str]:
     """The parts between commas that are in no brackets."""
-    out, depth, last = [], 0, 0
+    out, depth, last = list[str](), 0, 0
     for order, letter in enumerate(text):
         if letter in "([{<":
             depth += 1
@@ -37,46 +55,47 @@ def listed(text):
     return [one.strip() for one in [*out, text[last:]] if one.strip()]
 
 
-def bare(text):
+def bare(text: str) -> str:
     """Text without comments and attributes."""
     return re.sub(r"#\[[^\]]*\]", "", re.sub(r"//[^\n]*", "", text))
 
 
-def in_front(text, at):
+def in_front(text: str, at: int) -> list[str]:
     """The lines of comments and attributes in front of a place."""
-    before, out = text[:at].rstrip("\n").split("\n"), []
+    before, out = text[:at].rstrip("\n").split("\n"), list[str]()
     while before and re.match(r"\s*(///|#\[|//)", before[-1]):
         out.insert(0, before.pop().strip())
     return out
 
 
-def documentation(text, at):
+def documentation(text: str, at: int) -> list[str]:
     """The lines of the comment in front of a place."""
     return [re.sub(r"^///? ?", "", line) for line in in_front(text, at) if line.startswith("//")]
 
 
+@dataclasses.dataclass
 class Function:
     """What the source says of a function."""
 
-    def __init__(self, parameters, result, is_public, comment, bindings, cited):
-        self.parameters, self.result, self.is_public, self.comment, self.bindings = parameters, result, is_public, comment, bindings
-        # The definitions that its contract says what it does by.
-        self.cited = cited
-        # Its clauses, with their names, and where the definitions are that its file uses.
-        self.ensures, self.uses = [], {}
-        # Whether it is not to stand in the place of its calls.
-        self.is_apart = False
+    parameters: list[tuple[str, str]]
+    result: str
+    is_public: bool
+    comment: list[str]
+    bindings: list[str]
+    # The definitions that its contract says what it does by.
+    cited: list[str]
+    # Its clauses, with their names, and where the definitions are that its file uses.
+    ensures: list[tuple[str, str]] = dataclasses.field(default_factory=list)
+    uses: dict[str, Definition] = dataclasses.field(default_factory=dict)
+    # Whether it is not to stand in the place of its calls.
+    is_apart: bool = False
 
-    def with_comment(self, other):
+    def with_comment(self, other: Function | None) -> Function:
         """The same with the comment of another one, if there is such a one."""
-        if not other:
-            return self
-        made = Function(self.parameters, self.result, self.is_public, other.comment, self.bindings, self.cited)
-        made.is_apart = self.is_apart
-        return made
+        return dataclasses.replace(self, comment=other.comment, ensures=[], uses={}) if other else self
 
 
-def sources(top):
+def sources(top: pathlib.Path) -> list[pathlib.Path]:
     """The sources of a crate. Those of modules that its root exports as modules come first: what the root names itself hides what has the same
     name in such a one, as the errors of the driver those of the original."""
     exported = re.findall(r"(?m)^pub mod (\w+);", (top / "lib.rt").read_text(encoding="utf-8"))
@@ -84,10 +103,14 @@ def sources(top):
 
 
 class Source:
-    def __init__(self, root, crates):
-        self.fields, self.types_of_fields, self.variants, self.functions, self.bits, self.comments = {}, {}, {}, {}, {}, {}
+    def __init__(self, root: pathlib.Path, crates: Iterable[str]) -> None:
+        # By crate and name: of a struct its fields and their types, and of an enum each variant with its parts.
+        self.fields, self.types_of_fields = dict[Named, list[str]](), dict[Named, list[str]]()
+        self.variants, self.comments = dict[Named, list[tuple[str, list[str]]]](), dict[Named, list[str]]()
+        self.functions, self.bits = dict[tuple[str, str | None, str], Function](), dict[Named, dict[str, int]]()
         # Definitions by their names, and by crate, module and name.
-        self.definitions, self.defined, self.traits = {}, {}, {}
+        self.definitions, self.defined = dict[str, str](), dict[Definition, str]()
+        self.traits = dict[str | None, tuple[str, dict[str, Function]]]()
         for crate in crates:
             for file in sorted((root / "crates" / crate / "specs").glob("*.antt")):
                 self.define(crate, file.stem, file.read_text(encoding="utf-8").split("\n"))
@@ -95,13 +118,13 @@ class Source:
                 text = file.read_text(encoding="utf-8")
                 self.read(crate, file.stem, re.sub(r"(?m)^\s*ghost use [^;]*;\n", "", text), used(text))
 
-    def define(self, crate, module, lines):
+    def define(self, crate: str, module: str, lines: list[str]) -> None:
         """The comments in front of the definitions of a file."""
         for order, line in enumerate(lines):
             found = re.match(r"(?:abbrev|data|record)\s+(?:pub\s+)?(\w+)", line)
             if not found:
                 continue
-            comment = []
+            comment = list[str]()
             for before in reversed(lines[:order]):
                 if not before.startswith("--"):
                     break
@@ -109,37 +132,43 @@ class Source:
             if comment:
                 self.definitions[found[1]] = self.defined[crate, module, found[1]] = " ".join(comment)
 
-    def proved(self, function):
+    def defined_as(self, function: Function | None, name: str) -> str | None:
+        """What is written of a definition, by the name that a function's file has for it."""
+        definition = function.uses.get(name) if function else None
+        return self.defined.get(definition) if definition else None
+
+    def proved(self, function: Function | None) -> list[str]:
         """What is proved of a function, in the words of the definitions that its contract cites."""
-        out = []
+        out = list[str]()
         for name in function.cited if function else []:
             # Two crates may have definitions of one name.
-            said = self.defined.get(function.uses.get(name)) or self.definitions.get(name, "")
-            words = re.sub(r"^`\w+`: ", "", said)
+            said = self.defined_as(function, name) or self.definitions.get(name)
+            words = re.sub(r"^`\w+`: ", "", said or "")
             if words and words not in out and words.isascii():
                 out.append(words)
         return out
 
-    def clauses(self, function, are_plain):
+    def clauses(self, function: Function, are_plain: Callable[[Definition | None], bool]) -> list[tuple[str, str]]:
         """What is proved of a function: each clause by its name, in the words of the definition that something then is, or as it is where it has
         conditions or says it by no definition. Definitions that are plain say only how C has a value."""
         out = []
         for name, clause in function.ensures:
             value = [one for one in re.findall(r"[\w.]+", clause.split("\u2261")[-1]) if not are_plain(function.uses.get(one))]
-            words = self.defined.get(function.uses.get(value[0])) if value and "\u2192" not in clause else None
-            shown = re.sub(r"^`\w+`: ", "", words) if words and words.isascii() else in_ascii(clause)
+            words = self.defined_as(function, value[0]) if value and "\u2192" not in clause else None
+            shown: str = re.sub(r"^`\w+`: ", "", words) if words and words.isascii() else in_ascii(clause)
             out.append((name, shown if name or shown.startswith("result ") else f"the result is {shown}"))
         return out
 
-    def read(self, crate, module, text, uses):
+    def read(self, crate: str, module: str, text: str, uses: dict[str, Definition]) -> None:
         for found in re.finditer(r"(?m)^(?:pub(?:\([a-z]+\))? )?(struct|enum) (\w+)[^;{(]*([;{(])", text):
             self.read_type(crate, text, found)
-        blocks = [(found.start(), found[1] or found[2]) for found in
-                  re.finditer(r"(?m)^impl(?:<[^{]*?>)? (?:[\w:<>]+ for )?(\w+)|^(?:pub )?trait (\w+)", text)]
+        blocks = [
+            (found.start(), found[1] or found[2])
+            for found in re.finditer(r"(?m)^impl(?:<[^{]*?>)? (?:[\w:<>]+ for )?(\w+)|^(?:pub )?trait (\w+)", text)
+        ]
         for found in re.finditer(r"(?m)^( *)(pub(?:\([a-z]+\))? )?(?:const |extern \"C\" )?fn (\w+)(?:<[^(]*>)?\(", text):
             at, of = next((block for block in reversed(blocks) if block[0] < found.start()), (0, None)) if found[1] else (0, None)
-            function = self.functions[crate, of, found[3]] = self.function(text, found)
-            function.uses = uses
+            function = self.functions[crate, of, found[3]] = self.function(text, found, uses)
             if of is None:
                 self.functions[crate, f"module {module}", found[3]] = function
             if re.match(r"(pub )?trait", text[at:]):
@@ -155,10 +184,10 @@ class Source:
             bits = self.bits[crate, found[2]]
             bits[found[1]] = bits.pop(found[3])
 
-    def read_type(self, crate, text, found):
+    def read_type(self, crate: str, text: str, found: re.Match[str]) -> None:
         key, start = (crate, found[2]), found.end() - 1
         self.comments[key] = documentation(text, found.start())
-        items = listed(bare(text[start + 1:closing(text, start)])) if found[3] != ";" else []
+        items = listed(bare(text[start + 1 : closing(text, start)])) if found[3] != ";" else []
         if found[1] == "struct":
             names = [re.sub(r"^(?:pub(?:\([a-z]+\))?\s+)?(\w+)\s*:.*", r"\1", one, flags=re.S) for one in items]
             self.fields[key] = names if found[3] == "{" else [f"part{order}" for order, _ in enumerate(items)]
@@ -166,71 +195,74 @@ class Source:
             return
         out = []
         for one in items:
-            name = re.match(r"(\w+)\s*([({])?", one)
-            inner = listed(one[name.end():closing(one, name.end() - 1)]) if name[2] else []
+            name = sought(r"\A(\w+)\s*([({])?", one)
+            inner = listed(one[name.end() : closing(one, name.end() - 1)]) if name[2] else []
             out.append((name[1], [re.sub(r"\s*:.*", "", part, flags=re.S) if name[2] == "{" else "value" for part in inner]))
         self.variants[key] = out
 
-    def function(self, text, found):
+    def function(self, text: str, found: re.Match[str], uses: dict[str, Definition]) -> Function:
         end = closing(text, found.end() - 1)
         opened, in_line = text.find("\n" + found[1] + "{", end), text.find("{", end)
         opened = in_line if "\n" not in text[end:in_line] else opened + 1 + len(found[1])
         has_body = 0 < opened < len(text) and text[opened] == "{"
         parameters = []
-        for one in listed(bare(text[found.end():end])):
+        for one in listed(bare(text[found.end() : end])):
             name, _, of = one.partition(":")
             parameters.append(("self" if "self" in name else re.sub(r"^mut ", "", name.strip()).strip("&"), of.strip()))
         result = re.match(r"\)\s*->\s*([^\n{]+)", text[end:])
-        body = bare(text[opened:closing(text, opened)]) if has_body else ""
-        made = Function(parameters, (result[1] if result else "").strip(), found[2] == "pub ",
-                        documentation(text, found.start()), bindings(body), cited(text[end:opened]) if has_body else [])
-        made.ensures = ensured(text[end:opened]) if has_body else []
-        made.is_apart = "#[inline(never)]" in in_front(text, found.start())
-        return made
+        body = bare(text[opened : closing(text, opened)]) if has_body else ""
+        return Function(
+            parameters,
+            (result[1] if result else "").strip(),
+            found[2] == "pub ",
+            documentation(text, found.start()),
+            bindings(body),
+            cited(text[end:opened]) if has_body else [],
+            ensured(text[end:opened]) if has_body else [],
+            uses,
+            "#[inline(never)]" in in_front(text, found.start()),
+        )
 
-    def find(self, name):
+    def find(self, name: str) -> Function | None:
         """What the source says of a function of the MIR, or None."""
         path = name.split("::")
         of = self.type_of(path[0], path[-2])
-        crate, trait = self.traits.get(path[-2][len(of or ""):], (path[0], {}))
+        crate, trait = self.traits.get(path[-2][len(of or "") :], (path[0], {}))
         if crate != path[0] and (path[0], of, path[-1]) in self.functions:
             found = self.functions[path[0], of, path[-1]]
             return found if found.comment else found.with_comment(trait.get(path[-1]))
-        for of in (f"module {path[-2]}", path[-2], None, re.sub(r"(Default|Clone|PartialEq|Flags|Backend|Read|Write|ReadReady|WriteReady)$", "",
-                path[-2])):
-            found = self.functions.get((path[0], of, path[-1]))
-            if found:
-                return found
-        return None
+        bare_name = re.sub(r"(Default|Clone|PartialEq|Flags|Backend|Read|Write|ReadReady|WriteReady)$", "", path[-2])
+        places = [(path[0], of, path[-1]) for of in (f"module {path[-2]}", path[-2], None, bare_name)]
+        return next((self.functions[place] for place in places if place in self.functions), None)
 
-    def type_of(self, crate, name):
+    def type_of(self, crate: str, name: str) -> str | None:
         """The type of a crate with whose name the name of an implementation begins, or None."""
-        types = [of for known in (self.fields, self.variants) for its, of in known if its == crate and name.startswith(of)]
-        return max(types, key=len, default=None)
+        types = [of for its, of in [*self.fields, *self.variants] if its == crate and name.startswith(of)]
+        return max(types, key=len) if types else None
 
 
-def number(text):
+def number(text: str) -> int | None:
     """The number that a text is, or None."""
     found = re.fullmatch(r"\s*(0x[0-9a-fA-F_]+|0b[01_]+|\d[\d_]*)\s*(?:<<\s*(\d+))?\s*", text)
     return int(found[1].replace("_", ""), 0) << int(found[2] or 0) if found else None
 
 
-def cited(contract):
+def cited(contract: str) -> list[str]:
     """The definitions that the `ensures` of a contract name, in order."""
     clauses = "".join(re.findall(r"(?s)\bensures\b(.*?)(?=\bensures\b|\brequires\b|\Z)", contract))
     return list(dict.fromkeys(re.findall(r"(?<![\w.])([A-Z]\w+)", clauses)))
 
 
-def ensured(contract):
+def ensured(contract: str) -> list[tuple[str, str]]:
     """The clauses of a contract that say what is so afterwards: the name, if there is one, and the text."""
     out = []
     for found in re.finditer(r"\bensures\b *(\w*) *\{", contract):
-        text = contract[found.end():closing(contract, found.end() - 1)]
+        text = contract[found.end() : closing(contract, found.end() - 1)]
         out.append((found[1], re.sub(r"\s+", " ", text).strip()))
     return out
 
 
-def used(text):
+def used(text: str) -> dict[str, Definition]:
     """The definitions that a file uses, by how it writes them: a crate, a module and a name."""
     out = {}
     for crate, module, name in re.findall(r"(?m)^ghost use Rattle\.(\w+)\.specs\.(\w+) as (\w+);", text):
@@ -245,11 +277,11 @@ def used(text):
 SIGNS = {"\u2261": "=", "\u2262": "!=", "\u2192": "->", "\u22a5": "false", "\u00d7": "and", "\u2264": "<=", "\u2237": "::"}
 
 
-def in_ascii(clause):
+def in_ascii(clause: str) -> str:
     return "".join(SIGNS.get(one, one) for one in clause)
 
 
-def bindings(body):
+def bindings(body: str) -> list[str]:
     """The names that a body binds, in order; "?" where it may return by a question mark."""
     out = []
     for found in re.finditer(r"\blet\s+(?:mut\s+)?([^=;]+?)(?::[^=;]+)?=|\bfor\s+(.+?)\s+in\b|([^{};,]*?)=>|(\?)[;),.]", body):

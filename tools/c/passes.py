@@ -1,8 +1,23 @@
 """What makes the C of a function readable, step by step. Each step leaves what the function does."""
+from __future__ import annotations
+
+import collections
 import dataclasses
+import functools
+from collections.abc import Callable, Container, Iterator, Sequence
+from typing import TypeAlias
 
 import syntax as c
+from translate import Type as Meaning
 from translate import Unknown
+
+Statements: TypeAlias = list[c.Statement]
+Labels: TypeAlias = frozenset[int]
+NONE: Labels = frozenset()
+# Whether an expression has a call, whether it reads memory, and the variables that it uses.
+Depends: TypeAlias = tuple[bool, bool, set[c.Variable]]
+# Gives a number of a type of the MIR the names of its bits.
+WithNames: TypeAlias = Callable[[c.Literal, Meaning], c.Expression]
 
 # A condition with two short values is written in one line up to this length.
 SHORT = 76
@@ -10,11 +25,12 @@ SHORT = 76
 
 # Blocks and their exits as `if`, `break` and `continue`.
 
-def structured(statements, follow=frozenset(), leave=frozenset(), again=frozenset()):
+
+def structured(statements: Statements, follow: Labels = NONE, leave: Labels = NONE, again: Labels = NONE) -> Statements:
     """`follow` are the labels behind which it goes on anyway, and `leave` and `again` those that `break` and `continue` lead to."""
-    out = []
+    out = Statements()
     for order, one in enumerate(statements):
-        rest = statements[order + 1:]
+        rest = statements[order + 1 :]
         after = frozenset() if rest else follow
         if isinstance(one, c.Exit):
             if one.label in follow:
@@ -29,12 +45,13 @@ def structured(statements, follow=frozenset(), leave=frozenset(), again=frozense
             if moved:
                 return out + structured(moved, follow, leave, again)
             out.append(structured_choice(one, after, leave, again))
-        elif isinstance(one, c.Block) and if_else(one):
-            out += structured(if_else(one), after, leave, again)
+        elif isinstance(one, c.Block) and (made := if_else(one)):
+            out += structured(made, after, leave, again)
         elif isinstance(one, c.Block):
             mine = frozenset([one.label])
-            out += structured(one.body, after | mine, leave | (mine if after & leave else frozenset()),
-                              again | (mine if after & again else frozenset()))
+            out += structured(
+                one.body, after | mine, leave | (mine if after & leave else frozenset()), again | (mine if after & again else frozenset())
+            )
         elif isinstance(one, c.Loop):
             around = frozenset([-one.label])
             body = structured(one.body, around, frozenset([one.label]) | after, around)
@@ -46,22 +63,22 @@ def structured(statements, follow=frozenset(), leave=frozenset(), again=frozense
     return out
 
 
-def branches(one):
+def branches(one: c.If | c.Switch) -> list[Statements]:
     """The branches of a choice, which can be set."""
     return [one.yes, one.no] if isinstance(one, c.If) else [body for _, body in one.cases]
 
 
-def with_branches(one, bodies):
+def with_branches(one: c.If | c.Switch, bodies: list[Statements]) -> c.If | c.Switch:
     if isinstance(one, c.If):
         return c.If(one.condition, *bodies)
     return c.Switch(one.on, [(labels, body) for (labels, _), body in zip(one.cases, bodies)])
 
 
-def exits_to(body, labels):
+def exits_to(body: Statements, labels: Container[int]) -> bool:
     return bool(body) and isinstance(body[-1], c.Exit) and body[-1].label in labels
 
 
-def with_rest(one, rest, follow):
+def with_rest(one: c.If | c.Switch, rest: Statements, follow: Labels) -> Statements | None:
     """A choice some of whose branches skip what comes behind it: that goes into the only other branch, or behind a variable that says
     whether none of them was taken. None if there are no such."""
     found = [each.label for each in c.all_statements([one]) if isinstance(each, c.Exit) and each.label in follow]
@@ -71,19 +88,22 @@ def with_rest(one, rest, follow):
     skipping = [exits_to(body, follow) for body in bodies]
     going = [order for order, body in enumerate(bodies) if not skipping[order] and not c.leaves(body)]
     if len(going) <= 1 and sum(skipping) == len(found):
-        return [with_branches(one, [body[:-1] if skips else [*body, *rest] if order in going else body
-                                    for order, (body, skips) in enumerate(zip(bodies, skipping))])]
+        return [
+            with_branches(
+                one, [body[:-1] if skips else [*body, *rest] if order in going else body for order, (body, skips) in enumerate(zip(bodies, skipping))]
+            )
+        ]
     if len(set(found)) > 1:
         raise Unknown("a choice that needs a jump")
     is_reached = c.Variable(c.BOOL, hint="is_so")
     return [*flagged([one], found[0], is_reached), c.If(c.Var(is_reached), rest, [])]
 
 
-def has_exit(one, label):
+def has_exit(one: c.Statement, label: int) -> bool:
     return any(isinstance(each, c.Exit) and each.label == label for each in c.all_statements([one]))
 
 
-def flagged(statements, label, flag):
+def flagged(statements: Statements, label: int, flag: c.Variable) -> Statements:
     """The same statements, which note in a variable whether their end is reached, in place of leaving a block."""
     if not statements:
         return [c.Set(c.Var(flag), c.Word("true", c.BOOL))]
@@ -100,14 +120,14 @@ def flagged(statements, label, flag):
     return [*flagged([one], label, inner), c.If(c.Var(inner), flagged(rest, label, flag), [c.Set(c.Var(flag), c.Word("false", c.BOOL))])]
 
 
-def with_last_test(body, label):
+def with_last_test(body: Statements, label: int) -> Statements:
     """The same statements, where the last choice between going on and leaving the block by this label only leaves it."""
     if len(body) > 1 and isinstance(body[-1], c.Exit) and body[-1].label == label and isinstance(body[-2], c.If):
-        last = body[-2]
-        if c.leaves(last.yes) and not last.no:
-            return [*body[:-2], c.If(last.condition, [], [body[-1]]), *last.yes]
-        if c.leaves(last.no) and not last.yes:
-            return [*body[:-2], c.If(last.condition, [body[-1]], []), *last.no]
+        test = body[-2]
+        if c.leaves(test.yes) and not test.no:
+            return [*body[:-2], c.If(test.condition, [], [body[-1]]), *test.yes]
+        if c.leaves(test.no) and not test.yes:
+            return [*body[:-2], c.If(test.condition, [body[-1]], []), *test.no]
     last = body[-1]
     if isinstance(last, c.If) and len(last.no) == 1 and exits_to(last.no, {label}):
         return [*body[:-1], c.If(last.condition, [], last.no), *last.yes]
@@ -116,7 +136,7 @@ def with_last_test(body, label):
     return body
 
 
-def if_else(block):
+def if_else(block: c.Block) -> Statements | None:
     """A block in which another one computes a condition, and that leaves the outer one where it holds: an `if` with its `else`."""
     inner = block.body[0] if block.body else None
     if not isinstance(inner, c.Block) or not inner.body or not any(has_exit(one, inner.label) for one in inner.body):
@@ -126,7 +146,7 @@ def if_else(block):
         # A pattern with a condition of its own.
         body = with_last_test(body, inner.label)
     last = max(order for order, one in enumerate(body) if has_exit(one, inner.label))
-    condition, then = body[:last + 1], body[last + 1:]
+    condition, then = body[: last + 1], body[last + 1 :]
     ends = bool(then) and isinstance(then[-1], c.Exit) and then[-1].label == block.label
     if not (ends or c.leaves(then)):
         return None
@@ -142,15 +162,16 @@ def if_else(block):
 
 # Where a block has another one in front, and little behind it: as of `matches!` with several patterns.
 
-def with_short_rests(statements):
+
+def with_short_rests(statements: Statements) -> Statements:
     """The same, where what is behind an inner block is done at each of its exits."""
-    out = []
+    out = Statements()
     for one in statements:
         if isinstance(one, c.Block):
             body = with_short_rests(one.body)
-            rest = body[1:]
-            if rest and len(rest) <= 2 and isinstance(body[0], c.Block) and all(isinstance(each, c.Set) for each in rest):
-                body = ended(body[0].body, body[0].label, rest, one.label)
+            sets = [each for each in body[1:] if isinstance(each, c.Set)]
+            if 0 < len(sets) <= 2 and len(sets) == len(body) - 1 and isinstance(body[0], c.Block):
+                body = ended(body[0].body, body[0].label, sets, one.label)
             out.append(c.Block(one.label, body))
         elif isinstance(one, c.Loop):
             out.append(c.Loop(one.label, with_short_rests(one.body)))
@@ -161,9 +182,9 @@ def with_short_rests(statements):
     return out
 
 
-def ended(statements, label, rest, outer, is_end=True):
+def ended(statements: Statements, label: int, rest: list[c.Set], outer: int, is_end: bool = True) -> Statements:
     """Statements of an inner block that do the rest where they leave it, and then leave the outer one."""
-    out = []
+    out = Statements()
     for one in statements:
         if isinstance(one, c.Exit) and one.label == label:
             return [*out, *(c.Set(each.to, each.value) for each in rest), c.Exit(outer)]
@@ -178,20 +199,21 @@ def ended(statements, label, rest, outer, is_end=True):
     return out
 
 
-def with_returns(statements):
+def with_returns(statements: Statements) -> Statements:
     """The same, where each exit of the last block returns, if a variable that is returned is all that is behind it: as of a `match` with several
     conditions."""
     order = max((order for order, one in enumerate(statements) if isinstance(one, c.Block)), default=len(statements))
-    rest = statements[order + 1:]
-    if not (1 <= len(rest) <= 2 and isinstance(rest[-1], c.Return) and all(isinstance(one, c.Set) for one in rest[:-1])):
+    rest = statements[order + 1 :]
+    sets, last, block = [one for one in rest[:-1] if isinstance(one, c.Set)], rest[-1] if rest else None, statements[order] if rest else None
+    if not isinstance(block, c.Block) or not isinstance(last, c.Return) or len(rest) > 2 or len(sets) < len(rest) - 1:
         return statements
-    block = statements[order]
+    label, value = block.label, last.value
 
-    def returning(body):
-        out = []
+    def returning(body: Statements) -> Statements:
+        out = Statements()
         for one in body:
-            if isinstance(one, c.Exit) and one.label == block.label:
-                return [*out, *(c.Set(each.to, each.value) for each in rest[:-1]), c.Return(rest[-1].value)]
+            if isinstance(one, c.Exit) and one.label == label:
+                return [*out, *(c.Set(each.to, each.value) for each in sets), c.Return(value)]
             if isinstance(one, (c.If, c.Switch)):
                 one = with_branches(one, list(map(returning, branches(one))))
             elif isinstance(one, (c.Block, c.Loop)):
@@ -202,26 +224,27 @@ def with_returns(statements):
     return [*statements[:order], *returning(block.body), *rest]
 
 
-def with_joined_cases(one):
+def with_joined_cases(one: c.Statement) -> c.Statement:
     """The same, with one case for those that only set a variable to the same constant."""
     if isinstance(one, c.If):
         return c.If(one.condition, [with_joined_cases(each) for each in one.yes], [with_joined_cases(each) for each in one.no])
     if not isinstance(one, c.Switch):
         return one
-    cases, found = [], {}
+    cases, found = list[c.Case](), dict[tuple[c.Variable, str], int]()
     for labels, body in one.cases:
         body = [with_joined_cases(each) for each in body]
-        key = (body[0].to.variable, body[0].value.name) if len(body) == 1 and isinstance(body[0], c.Set) and isinstance(body[0].to, c.Var) \
-            and isinstance(body[0].value, c.Word) else None
-        if key and key in found and labels is not None and cases[found[key]][0] is not None:
-            cases[found[key]] = ([*cases[found[key]][0], *labels], cases[found[key]][1])
-            continue
-        found.setdefault(key, len(cases))
+        only = body[0] if len(body) == 1 else None
+        if isinstance(only, c.Set) and isinstance(only.to, c.Var) and isinstance(only.value, c.Word):
+            at = found.setdefault((only.to.variable, only.value.name), len(cases))
+            earlier = cases[at][0] if at < len(cases) else None
+            if earlier is not None and labels is not None:
+                cases[at] = ([*earlier, *labels], cases[at][1])
+                continue
         cases.append((labels, body))
     return c.Switch(one.on, cases)
 
 
-def structured_choice(one, follow, leave, again):
+def structured_choice(one: c.If | c.Switch, follow: Labels, leave: Labels, again: Labels) -> c.If | c.Switch:
     if isinstance(one, c.If):
         return c.If(one.condition, structured(one.yes, follow, leave, again), structured(one.no, follow, leave, again))
     try:
@@ -231,28 +254,27 @@ def structured_choice(one, follow, leave, again):
         return structured_choice(as_ifs(one), follow, leave, again)
 
 
-def as_ifs(one):
+def as_ifs(one: c.Switch) -> c.If:
     """A `switch` as one `if` behind another."""
     if len(one.cases) < 2 or any(isinstance(part, (c.CallOf, c.Deref)) for part in c.every(one.on)):
         raise Unknown("a switch in a loop that it leaves")
     labels, body = one.cases[0]
     others = c.Switch(one.on, one.cases[1:])
-    condition = None
-    for label in labels:
-        test = c.Binary("==", one.on, label, c.BOOL)
-        condition = test if condition is None else c.Binary("||", condition, test, c.BOOL)
+    tests = [c.Binary("==", one.on, label, c.BOOL) for label in labels or []]
+    condition = functools.reduce(lambda first, second: c.Binary("||", first, second, c.BOOL), tests)
     return c.If(condition, body, one.cases[1][1] if len(one.cases) == 2 else [as_ifs(others)])
 
 
 # What is the same and shorter.
 
-def simpler(one):
+
+def simpler(one: c.Expression) -> c.Expression:
     if isinstance(one, c.Deref) and isinstance(one.pointer, c.AddressOf):
         return one.pointer.place
     if isinstance(one, c.AddressOf) and isinstance(one.place, c.Deref):
         return one.place.pointer
-    if isinstance(one, c.Field) and isinstance(one.base, c.CallOf) and one.base.fields and one.name in one.base.fields:
-        return part_of_made(one.base, one.name)
+    if isinstance(one, c.Field) and isinstance(one.base, c.CallOf) and one.name in (members := one.base.members()):
+        return members[one.name]
     if isinstance(one, c.Unary) and one.operator == "!" and one.operand.of is c.BOOL:
         opposite = c.negated(one.operand)
         if not (isinstance(opposite, c.Unary) and opposite.operator == "!"):
@@ -264,13 +286,12 @@ def simpler(one):
     return one
 
 
-def part_of_made(made, name):
-    """What a maker puts into a member: an argument, or a constant."""
-    what = made.fields[name]
-    return made.arguments[what] if isinstance(what, int) else what
+def is_power_of_two(one: c.Expression) -> bool:
+    """Whether an operand is a number by which a compiler multiplies and divides with shifts."""
+    return isinstance(one, c.Literal) and one.value & (one.value - 1) == 0 and one.value > 0
 
 
-def simpler_binary(one):
+def simpler_binary(one: c.Binary) -> c.Expression:
     left, right = one.left, one.right
     if one.operator in ("==", "!="):
         if isinstance(left, c.Word) and isinstance(right, c.Word):
@@ -278,10 +299,9 @@ def simpler_binary(one):
             return c.Word("true" if same == (one.operator == "==") else "false", c.BOOL)
         if isinstance(right, c.Word) and right.name in ("true", "false"):
             return left if (right.name == "true") == (one.operator == "==") else simpler(c.Unary("!", left, c.BOOL))
-        is_one_bit = isinstance(right, c.Literal) and right.value and right.value & (right.value - 1) == 0
-        if is_one_bit and isinstance(left, c.Binary) and left.operator == "&" and isinstance(left.right, c.Literal) \
-                and left.right.value == right.value:
-            return c.Binary("!=" if one.operator == "==" else "==", left, c.Literal(0, right.of), c.BOOL)
+        if isinstance(right, c.Literal) and is_power_of_two(right) and isinstance(left, c.Binary) and left.operator == "&":
+            if isinstance(left.right, c.Literal) and left.right.value == right.value:
+                return c.Binary("!=" if one.operator == "==" else "==", left, c.Literal(0, right.of), c.BOOL)
         if isinstance(left, c.Literal) and isinstance(right, c.Literal):
             return c.Word("true" if (left.value == right.value) == (one.operator == "==") else "false", c.BOOL)
     if one.operator in ("<", "<=") and isinstance(left, c.Literal) and isinstance(right, c.Literal):
@@ -293,12 +313,12 @@ def simpler_binary(one):
     # The right side is not computed if the left one decides.
     if one.operator in ("&&", "||") and isinstance(left, c.Word) and left.of is c.BOOL:
         return right if (left.name == "true") == (one.operator == "&&") else left
-    if one.operator == "&" and isinstance(right, c.Literal) and right.value == (1 << right.of.bits) - 1:
+    if one.operator == "&" and isinstance(right, c.Literal) and right.value == (1 << c.bits(right.of)) - 1:
         return left
     return one
 
 
-def on_expressions(statements, change):
+def on_expressions(statements: Statements, change: c.Change) -> None:
     """Changes each expression of statements, in place."""
     for one in c.all_statements(statements):
         for name in c.EXPRESSIONS.get(type(one), ()):
@@ -307,41 +327,56 @@ def on_expressions(statements, change):
                 setattr(one, name, c.rebuilt(value, change))
 
 
-def simplify(statements):
+def simplify(statements: Statements) -> None:
     on_expressions(statements, simpler)
     for one in c.all_statements(statements):
         if isinstance(one, c.Switch):
             narrow(one)
 
 
-def narrow(switch):
+def narrow(switch: c.Switch) -> None:
     """A choice over a number as it is, and not over a wider one."""
     on = switch.on
-    labels = [label for numbers, _ in switch.cases for label in numbers or []]
-    is_widened = isinstance(on, c.Cast) and all(isinstance(one.of, c.Number) for one in (on, on.operand)) and on.operand.of.bits < on.of.bits
-    if is_widened and all(isinstance(one, c.Literal) and one.value < 1 << on.operand.of.bits for one in labels):
+    if not isinstance(on, c.Cast) or not isinstance(on.of, c.Number) or not isinstance(on.operand.of, c.Number):
+        return
+    of, labels = on.operand.of, [label for numbers, _ in switch.cases for label in numbers or []]
+    literals = [label for label in labels if isinstance(label, c.Literal) and label.value < 1 << of.bits]
+    narrowed: dict[c.Expression, c.Expression] = {label: c.Literal(label.value, of, label.names) for label in literals}
+    if of.bits < on.of.bits and all(one in narrowed for one in labels):
         switch.on = on.operand
-        switch.cases = [(numbers and [c.Literal(one.value, on.operand.of, one.names) for one in numbers], body) for numbers, body in switch.cases]
+        switch.cases = [(numbers and [narrowed[one] for one in numbers], body) for numbers, body in switch.cases]
 
 
 # What an expression depends on, and what a statement does.
 
-def root(one):
+
+def is_of(one: c.Expression, variable: c.Variable) -> bool:
+    """Whether an expression is this variable."""
+    return isinstance(one, c.Var) and one.variable is variable
+
+
+def assigns(one: c.Statement, variable: c.Variable) -> bool:
+    """Whether a statement sets this variable as a whole."""
+    return isinstance(one, c.Set) and is_of(one.to, variable)
+
+
+def root(one: c.Expression) -> c.Variable | None:
     """The variable of which a place is a part, or None."""
     while isinstance(one, c.Field):
         one = one.base
     return one.variable if isinstance(one, c.Var) else None
 
 
-def is_start_of_array(one):
+def is_start_of_array(one: c.Expression) -> bool:
     return isinstance(one, c.Field) and one.name == "bytes" and isinstance(one.of, c.Pointer)
 
 
 class Facts:
     """Of a function: which variables are defined once, how often each is read, and which of them have an address."""
 
-    def __init__(self, statements):
-        self.definitions, self.reads, self.taken, self.in_parts = {}, {}, set(), set()
+    def __init__(self, statements: Statements) -> None:
+        self.definitions, self.reads = dict[c.Variable, int](), dict[c.Variable, int]()
+        self.taken, self.in_parts = set[c.Variable](), set[c.Variable]()
         for one in c.all_statements(statements):
             if isinstance(one, c.Set):
                 self.note_set(one)
@@ -349,34 +384,33 @@ class Facts:
                 is_target = isinstance(one, c.Set) and expression is one.to
                 self.note(expression, is_target)
 
-    def note_set(self, one):
+    def note_set(self, one: c.Set) -> None:
         if isinstance(one.to, c.Var):
             self.definitions[one.to.variable] = self.definitions.get(one.to.variable, 0) + 1
-        elif root(one.to):
-            self.in_parts.add(root(one.to))
+        elif variable := root(one.to):
+            self.in_parts.add(variable)
 
-    def note(self, expression, is_target):
+    def note(self, expression: c.Expression, is_target: bool) -> None:
         for part in c.every(expression):
             if isinstance(part, c.Var) and not (is_target and (part is expression or root(expression) is part.variable)):
                 self.reads[part.variable] = self.reads.get(part.variable, 0) + 1
-            if isinstance(part, c.AddressOf) and root(part.place):
-                self.taken.add(root(part.place))
-            if is_start_of_array(part) and root(part):
-                self.taken.add(root(part))
+            at = part.place if isinstance(part, c.AddressOf) else part if is_start_of_array(part) else None
+            if at and (variable := root(at)):
+                self.taken.add(variable)
 
-    def is_fixed(self, variable):
+    def is_fixed(self, variable: c.Variable) -> bool:
         """Whether a variable has one value for ever, which no pointer can change."""
         if variable in self.taken or variable in self.in_parts:
             return False
         return self.definitions.get(variable, 0) == (0 if variable.is_parameter else 1)
 
-    def is_address(self, one):
+    def is_address(self, one: c.Expression) -> bool:
         """Whether an expression is an address that never changes."""
         if isinstance(one, c.AddressOf):
             return self.is_fixed_place(one.place)
-        return is_start_of_array(one) and self.is_fixed_place(one.base)
+        return isinstance(one, c.Field) and is_start_of_array(one) and self.is_fixed_place(one.base)
 
-    def is_fixed_place(self, one):
+    def is_fixed_place(self, one: c.Expression) -> bool:
         if isinstance(one, c.Var):
             return True
         if isinstance(one, c.Field):
@@ -385,7 +419,7 @@ class Facts:
             return self.is_stable(one.pointer)
         return isinstance(one, c.Index) and self.is_stable(one.pointer) and self.is_stable(one.index)
 
-    def is_stable(self, one):
+    def is_stable(self, one: c.Expression) -> bool:
         """Whether an expression may be computed again at any time behind, with the same result."""
         if isinstance(one, (c.Literal, c.Word)):
             return True
@@ -393,12 +427,13 @@ class Facts:
             return self.is_fixed(one.variable)
         if self.is_address(one):
             return True
-        return isinstance(one, c.Field) and root(one) is not None and self.is_fixed(root(one))
+        variable = root(one)
+        return isinstance(one, c.Field) and variable is not None and self.is_fixed(variable)
 
-    def depends(self, expression):
+    def depends(self, expression: c.Expression) -> Depends:
         """What an expression calls, reads and uses: whether it has a call, whether it reads memory, and which variables."""
         calls = memory = False
-        variables = set()
+        variables = set[c.Variable]()
         for part in c.every(expression):
             if isinstance(part, c.CallOf) and not part.is_pure:
                 calls = True
@@ -410,10 +445,10 @@ class Facts:
         return calls, memory, variables
 
 
-def depends_of_target(facts, to):
+def depends_of_target(facts: Facts, to: c.Expression) -> Depends:
     """As `depends`, of a place that is written: only what is computed to find it."""
     calls = memory = False
-    variables = set()
+    variables = set[c.Variable]()
     while isinstance(to, (c.Field, c.Deref, c.Index)):
         if isinstance(to, c.Field):
             to = to.base
@@ -427,7 +462,8 @@ def depends_of_target(facts, to):
 
 # Values that never change, where they are used.
 
-def propagate(statements, with_names):
+
+def propagate(statements: Statements, with_names: WithNames) -> bool:
     """Puts stable values in place of variables. Returns whether there was one."""
     facts = Facts(statements)
     values = {}
@@ -439,7 +475,7 @@ def propagate(statements, with_names):
     if not values:
         return False
 
-    def change(one):
+    def change(one: c.Expression) -> c.Expression:
         if isinstance(one, c.Var) and one.variable in values:
             value = values[one.variable]
             for inner in c.every(value):
@@ -459,7 +495,7 @@ def propagate(statements, with_names):
     return any(after.get(variable, 0) != count for variable, count in before.items())
 
 
-def is_stable_struct(facts, value, variable, statements):
+def is_stable_struct(facts: Facts, value: c.Expression, variable: c.Variable, statements: Statements) -> bool:
     """Whether a struct that is made of stable parts is only looked into."""
     if not (isinstance(value, c.CallOf) and value.is_pure and value.fields):
         return False
@@ -469,19 +505,18 @@ def is_stable_struct(facts, value, variable, statements):
         for expression in c.expressions(one):
             inside = {id(part.base) for part in c.every(expression) if isinstance(part, c.Field) and part.name in value.fields}
             for part in c.every(expression):
-                if isinstance(part, c.Var) and part.variable is variable and id(part) not in inside \
-                        and not (isinstance(one, c.Set) and part is one.to):
+                if is_of(part, variable) and id(part) not in inside and not (isinstance(one, c.Set) and part is one.to):
                     return False
     return True
 
 
-def remove_dead(statements):
+def remove_dead(statements: Statements) -> bool:
     """Removes assignments that nothing reads. Returns whether there was one."""
     facts, changed = Facts(statements), False
 
-    def go(body):
+    def go(body: Statements) -> Statements:
         nonlocal changed
-        out = []
+        out = Statements()
         for one in body:
             for inner in c.lists(one):
                 inner[:] = go(inner)
@@ -504,7 +539,7 @@ def remove_dead(statements):
                 continue
             if isinstance(one, c.Switch) and isinstance(one.on, c.Word):
                 changed = True
-                out += case_of(one)
+                out += case_of(one, one.on.name)
                 if c.leaves(out):
                     return out
                 continue
@@ -520,19 +555,19 @@ def remove_dead(statements):
     return changed
 
 
-def case_of(switch):
+def case_of(switch: c.Switch, name: str) -> Statements:
     """What a choice over a constant does. Without a case for all others its last one is that."""
     for labels, body in switch.cases:
-        if labels is None or any(isinstance(label, c.Word) and label.name == switch.on.name for label in labels):
+        if labels is None or any(isinstance(label, c.Word) and label.name == name for label in labels):
             return body
     return switch.cases[-1][1]
 
 
-def only_value(statements, parameters):
+def only_value(statements: Statements, parameters: Sequence[c.Variable]) -> c.Expression | None:
     """The value that a function returns if it does nothing else, and that is a constant with a name, or a number or a call with each of its
     parameters once; or None."""
     value = statements[0].value if len(statements) == 1 and isinstance(statements[0], c.Return) else None
-    if isinstance(value, c.Word):
+    if value is None or isinstance(value, c.Word):
         return value
     inner = value.arguments if isinstance(value, c.CallOf) else [value]
     if not all(isinstance(one, (c.Literal, c.Word, c.Var)) for one in inner):
@@ -541,22 +576,18 @@ def only_value(statements, parameters):
     return value if len(read) == len(parameters) and all(one in read for one in parameters) else None
 
 
-def without_idle_arrays(statements):
+def without_idle_arrays(statements: Statements) -> None:
     """Without what is written to the cells of arrays that nobody reads, and without copies of arrays that are only read, from structs that
     are only read too."""
     facts = Facts(statements)
-    written = {}
+    written = dict[c.Variable, Statements]()
     for one in c.all_statements(statements):
-        if isinstance(one, c.Set) and isinstance(one.to, c.Index) and is_start_of_array(one.to.pointer) and isinstance(one.to.pointer.base, c.Var):
-            if not facts.depends(one.value)[0]:
-                written.setdefault(one.to.pointer.base.variable, []).append(one)
-    mentioned = {}
-    for one in c.all_statements(statements):
-        for part in (part for whole in c.expressions(one) for part in c.every(whole)):
-            if isinstance(part, c.Var):
-                mentioned[part.variable] = mentioned.get(part.variable, 0) + 1
+        start = one.to.pointer if isinstance(one, c.Set) and isinstance(one.to, c.Index) and not facts.depends(one.value)[0] else None
+        if isinstance(start, c.Field) and is_start_of_array(start) and isinstance(start.base, c.Var):
+            written.setdefault(start.base.variable, []).append(one)
+    mentioned = collections.Counter(part.variable for part in c.all_parts(statements) if isinstance(part, c.Var))
     idle = {id(one) for variable, sets in written.items() if mentioned[variable] == len(sets) and not variable.is_parameter for one in sets}
-    copied = {}
+    copied = dict[c.Variable, c.Expression]()
     for one in c.all_statements(statements):
         if isinstance(one, c.Set) and isinstance(one.to, c.Var) and isinstance(one.value, c.Field) and isinstance(one.value.base, c.Var):
             to, of = one.to.variable, one.value.base.variable
@@ -568,31 +599,30 @@ def without_idle_arrays(statements):
     on_expressions(statements, lambda one: copied.get(one.variable, one) if isinstance(one, c.Var) else one)
 
 
-def is_only_read(statements, variable):
+def is_only_read(statements: Statements, variable: c.Variable) -> bool:
     """Whether a struct is set as a whole, and otherwise read, or given to functions that only read it."""
     if variable.is_parameter or not variable.of.text().startswith("struct "):
         return False
     for one in c.all_statements(statements):
-        if isinstance(one, c.Set) and not isinstance(one.to, c.Var) and any(isinstance(part, c.Var) and part.variable is variable
-                for part in c.every(one.to)):
+        if isinstance(one, c.Set) and not isinstance(one.to, c.Var) and any(is_of(part, variable) for part in c.every(one.to)):
             return False
-        for part in (part for whole in c.expressions(one) for part in c.every(whole)):
-            if isinstance(part, c.AddressOf) and root(part.place) is variable:
-                return False
-            if isinstance(part, c.CallOf) and part.name != "uart_same_bytes" \
-                    and any(is_start_of_array(each) and root(each) is variable for each in part.arguments):
-                return False
+    for part in c.all_parts(statements):
+        if isinstance(part, c.AddressOf) and root(part.place) is variable:
+            return False
+        written = part.arguments if isinstance(part, c.CallOf) and part.name != "uart_same_bytes" else []
+        if any(is_start_of_array(each) and root(each) is variable for each in written):
+            return False
     return True
 
 
-def outer_calls(one):
+def outer_calls(one: c.Expression) -> list[c.CallOf]:
     """The calls of an expression that do something, each with those that are in its arguments."""
     if isinstance(one, c.CallOf) and not one.is_pure:
         return [one]
     return [call for part in c.parts(one) for call in outer_calls(part)]
 
 
-def passed_on(statements, parameters):
+def passed_on(statements: Statements, parameters: Sequence[c.Variable]) -> c.Literal | c.CallOf | None:
     """The only thing that a function does: a call that gets each parameter once, in its order, or a number that it returns; or None."""
     one = statements[0] if len(statements) == 1 else None
     value = one.value if isinstance(one, c.Return) else one.call if isinstance(one, c.Do) else None
@@ -607,34 +637,38 @@ def passed_on(statements, parameters):
 
 # Values that are used once, where they are used.
 
-def forward(statements, with_names):
+
+def forward(statements: Statements, with_names: WithNames) -> bool:
     """Puts a value into the statement that is the only one to use it. Returns whether there was one."""
     facts = Facts(statements)
     for body in every_list(statements):
         for order, one in enumerate(body):
-            if isinstance(one, c.Set) and isinstance(one.to, c.Var) and can_go(facts, one.to.variable) and moves(facts, body, order, with_names):
+            if (
+                isinstance(one, c.Set)
+                and isinstance(one.to, c.Var)
+                and can_go(facts, one.to.variable)
+                and moves(facts, one.to.variable, one.value, body[order + 1 :], with_names)
+            ):
                 del body[order]
                 return True
     return False
 
 
-def every_list(statements):
+def every_list(statements: Statements) -> Iterator[Statements]:
     yield statements
     for one in statements:
         for body in c.lists(one):
             yield from every_list(body)
 
 
-def can_go(facts, variable):
+def can_go(facts: Facts, variable: c.Variable) -> bool:
     return facts.is_fixed(variable) and not variable.is_parameter and facts.reads.get(variable) == 1
 
 
-def moves(facts, body, order, with_names):
-    """Moves a value behind the statements that do not interfere into the one that uses it, if there is such a one."""
-    variable, value = body[order].to.variable, body[order].value
+def moves(facts: Facts, variable: c.Variable, value: c.Expression, behind: Statements, with_names: WithNames) -> bool:
+    """Moves the value of a variable past the statements that do not interfere into the one that uses it, if there is such a one."""
     calls, memory, variables = facts.depends(value)
-    for at in range(order + 1, len(body)):
-        one = body[at]
+    for one in behind:
         if uses(one, variable):
             return goes_into(facts, one, variable, value, with_names)
         if not isinstance(one, (c.Set, c.Do)) or any(uses(inner, variable) for inner in c.all_statements([one])):
@@ -648,27 +682,27 @@ def moves(facts, body, order, with_names):
     return False
 
 
-def joined_depends(facts, one):
+def joined_depends(facts: Facts, one: c.Statement) -> Depends:
     calls = memory = False
-    variables = set()
+    variables = set[c.Variable]()
     for expression in c.expressions(one):
         found = depends_of_target(facts, expression) if isinstance(one, c.Set) and expression is one.to else facts.depends(expression)
         calls, memory, variables = calls or found[0], memory or found[1], variables | found[2]
     return calls, memory, variables
 
 
-def uses(one, variable):
-    return any(isinstance(part, c.Var) and part.variable is variable for expression in c.expressions(one) for part in c.every(expression))
+def uses(one: c.Statement, variable: c.Variable) -> bool:
+    return any(is_of(part, variable) for expression in c.expressions(one) for part in c.every(expression))
 
 
-def goes_into(facts, one, variable, value, with_names):
+def goes_into(facts: Facts, one: c.Statement, variable: c.Variable, value: c.Expression, with_names: WithNames) -> bool:
     if isinstance(one, (c.While, c.For)):
         return False
     calls, memory, _ = facts.depends(value)
     path = path_to(c.expressions(one), variable)
     if path and is_complement(value) and len(path) > 1 and isinstance(path[-2], c.Binary) and path[-2].operator in c.COMPARISONS:
         return False
-    if path is None or isinstance(path[0], c.Var) and path[0].variable is variable and isinstance(one, c.Set) and path[0] is one.to:
+    if path is None or isinstance(one, c.Set) and path[0] is one.to and is_of(path[0], variable):
         return False
     if calls or memory:
         for part, child in zip(path, path[1:]):
@@ -679,26 +713,27 @@ def goes_into(facts, one, variable, value, with_names):
             return False
     value = with_names(value, variable.meaning) if isinstance(value, c.Literal) else value
 
-    def change(part):
-        return value if isinstance(part, c.Var) and part.variable is variable else simpler(part)
-
     for name in c.EXPRESSIONS[type(one)]:
         if getattr(one, name) is not None:
-            setattr(one, name, c.rebuilt(getattr(one, name), change))
+            setattr(one, name, c.rebuilt(getattr(one, name), lambda part: value if is_of(part, variable) else simpler(part)))
     return True
 
 
-def is_complement(one):
+def is_complement(one: c.Expression) -> bool:
     """Whether a small number is all ones less something. gcc takes that for a mistake in a comparison, so it stays a variable."""
     inner = one.operand if isinstance(one, c.Cast) else None
-    return isinstance(inner, c.Binary) and inner.operator == "-" and isinstance(inner.left, c.Literal) \
-        and inner.left.value == (1 << inner.left.of.bits) - 1
+    return (
+        isinstance(inner, c.Binary)
+        and inner.operator == "-"
+        and isinstance(inner.left, c.Literal)
+        and inner.left.value == (1 << c.bits(inner.left.of)) - 1
+    )
 
 
-def path_to(expressions, variable):
+def path_to(expressions: list[c.Expression], variable: c.Variable) -> list[c.Expression] | None:
     """The expressions from the outermost one to the use of a variable."""
     for expression in expressions:
-        if isinstance(expression, c.Var) and expression.variable is variable:
+        if is_of(expression, variable):
             return [expression]
         inner = path_to(c.parts(expression), variable)
         if inner:
@@ -706,7 +741,7 @@ def path_to(expressions, variable):
     return None
 
 
-def may_join(facts, one, path, has_call):
+def may_join(facts: Facts, one: c.Statement, path: list[c.Expression], has_call: bool) -> bool:
     """Whether a value that calls or reads memory may be computed in the middle of a statement: C says nothing of the order there."""
     on_path = {id(part) for part in path}
     for expression in c.expressions(one):
@@ -721,7 +756,7 @@ def may_join(facts, one, path, has_call):
     return True
 
 
-def beside(facts, expression, on_path, has_call, is_target):
+def beside(facts: Facts, expression: c.Expression, on_path: set[int], has_call: bool, is_target: bool) -> bool:
     """Whether what is beside the path neither calls nor, if the value calls, reads memory."""
     if id(expression) not in on_path:
         calls, memory, _ = facts.depends(expression)
@@ -731,7 +766,7 @@ def beside(facts, expression, on_path, has_call, is_target):
     return all(beside(facts, part, on_path, has_call, False) for part in c.parts(expression))
 
 
-def forward_addresses(statements):
+def forward_addresses(statements: Statements) -> bool:
     """Puts the address of an item in place of a pointer, if its index stays as it is up to the last use."""
     facts = Facts(statements)
     for body in every_list(statements):
@@ -741,40 +776,35 @@ def forward_addresses(statements):
             variable = one.to.variable
             if variable.is_parameter or not facts.is_fixed(variable) or not isinstance(one.value.place, c.Index):
                 continue
-            if keeps(facts, body, order, variable, one.value):
+            if keeps(facts, body[order + 1 :], variable, one.value.place):
                 value = one.value
                 del body[order]
 
-                def change(part, variable=variable, value=value):
-                    return value if isinstance(part, c.Var) and part.variable is variable else simpler(part)
-
-                on_expressions(statements, change)
+                on_expressions(statements, lambda part: value if is_of(part, variable) else simpler(part))
                 return True
     return False
 
 
-def keeps(facts, body, order, variable, value):
-    """Whether all uses of a variable are behind here in the same list, before what its value is made of changes."""
-    calls, memory, variables = facts.depends(value.place.pointer)
-    more = facts.depends(value.place.index)
+def keeps(facts: Facts, behind: Statements, variable: c.Variable, place: c.Index) -> bool:
+    """Whether all uses of a variable are behind here in the same list, before the place whose address it has changes."""
+    calls, memory, variables = facts.depends(place.pointer)
+    more = facts.depends(place.index)
     if calls or memory or more[0] or more[1]:
         return False
     variables |= more[2]
     count = 0
-    for one in body[order + 1:]:
-        inner = list(c.all_statements([one]))
-        used = sum(isinstance(part, c.Var) and part.variable is variable for each in inner for expression in c.expressions(each)
-                   for part in c.every(expression))
+    for one in behind:
+        used = sum(is_of(part, variable) for part in c.all_parts([one]))
         count += used
-        changes = any(isinstance(each, c.Set) and root(each.to) in variables for each in inner)
-        if changes:
+        if any(isinstance(each, c.Set) and root(each.to) in variables for each in c.all_statements([one])):
             return count == facts.reads.get(variable) and not used
     return count == facts.reads.get(variable)
 
 
 # Values that memory has, where they are used.
 
-def into_branches(statements, quiet):
+
+def into_branches(statements: Statements, quiet: set[str]) -> bool:
     """Reads a value in the branches that use it, if those are some of the choice behind it and not all. Returns whether there was one. `quiet`
     are the functions that only compute."""
     facts = Facts(statements)
@@ -784,79 +814,86 @@ def into_branches(statements, quiet):
                 continue
             variable, used = one.to.variable, [each for each in c.lists(choice) if mentions(each, one.to.variable)]
             stays = variable.is_parameter or not facts.is_fixed(variable) or not any(facts.depends(one.value)[:2])
-            is_read_elsewhere = uses(choice, variable) or mentions(body[order + 2:], variable)
+            is_read_elsewhere = uses(choice, variable) or mentions(body[order + 2 :], variable)
             if stays or is_read_elsewhere or not 0 < len(used) < len(c.lists(choice)):
                 continue
             if not is_quiet(one, quiet) or not all(calls_quietly(each, quiet) for each in c.expressions(choice)):
                 continue
             for each in used:
                 own = dataclasses.replace(variable)
-                on_expressions(each, lambda part, own=own, old=variable: c.Var(own) if isinstance(part, c.Var) and part.variable is old else part)
+                on_expressions(each, lambda part: c.Var(own) if is_of(part, variable) else part)
                 each.insert(0, c.Set(c.Var(own), one.value))
             del body[order]
             return True
     return False
 
 
-def where_it_is(statements):
+def where_it_is(statements: Statements) -> None:
     """Computes a number that is written behind a parameter of what is there, and not of a variable that has it: what may be changed by a parameter
     is changed by no other. A compiler then adds in memory, and keeps no register for it."""
     facts = Facts(statements)
     for body in every_list(statements):
         for order, one in enumerate(body):
-            pointer = one.to.pointer if isinstance(one, c.Set) and isinstance(one.to, c.Deref) else None
+            if not isinstance(one, c.Set) or not isinstance(one.to, c.Deref):
+                continue
+            pointer = one.to.pointer
             if not isinstance(pointer, c.Var) or not is_written_once(statements, pointer.variable):
                 continue
-            copies = {each.to.variable: each.value for each in body[:order] if isinstance(each, c.Set) and isinstance(each.to, c.Var)
-                      and facts.is_fixed(each.to.variable) and is_copy(each.value, pointer.variable)}
+            copies = {
+                each.to.variable: each.value
+                for each in body[:order]
+                if isinstance(each, c.Set)
+                and isinstance(each.to, c.Var)
+                and facts.is_fixed(each.to.variable)
+                and is_copy(each.value, pointer.variable)
+            }
 
-            def change(part, copies=copies):
-                return as_it_was(copies.get(part.variable, part) if isinstance(part, c.Var) else part)
-
-            one.value = c.rebuilt(one.value, change)
+            one.value = c.rebuilt(one.value, lambda part: as_it_was(copies.get(part.variable, part) if isinstance(part, c.Var) else part))
 
 
-def is_written_once(statements, variable):
+def is_written_once(statements: Statements, variable: c.Variable) -> bool:
     """Whether a parameter is the address of a number that may be changed, goes nowhere else, and is written through once."""
     of = variable.meaning
     if not (variable.is_parameter and isinstance(of, tuple) and of[0] == "Ref" and of[2] and isinstance(of[1], tuple) and of[1][0] == "Int"):
         return False
-    parts = [part for one in c.all_statements(statements) for whole in c.expressions(one) for part in c.every(whole)]
-    behind = sum(isinstance(part, c.Deref) and isinstance(part.pointer, c.Var) and part.pointer.variable is variable for part in parts)
-    written = sum(isinstance(one, c.Set) and isinstance(one.to, c.Deref) and isinstance(one.to.pointer, c.Var) and one.to.pointer.variable is variable
-                  for one in c.all_statements(statements))
-    return written == 1 and behind == sum(isinstance(part, c.Var) and part.variable is variable for part in parts)
+    parts, sets = [*c.all_parts(statements)], [one for one in c.all_statements(statements) if isinstance(one, c.Set)]
+    behind = sum(isinstance(part, c.Deref) and is_of(part.pointer, variable) for part in parts)
+    written = sum(isinstance(one.to, c.Deref) and is_of(one.to.pointer, variable) for one in sets)
+    return written == 1 and behind == sum(is_of(part, variable) for part in parts)
 
 
-def is_copy(value, pointer):
+def is_copy(value: c.Expression, pointer: c.Variable) -> bool:
     """Whether a value is the number behind a pointer, as wide or wider."""
-    while isinstance(value, c.Cast) and value.of.bits >= value.operand.of.bits:
+    while isinstance(value, c.Cast) and c.bits(value.of) >= c.bits(value.operand.of):
         value = value.operand
-    return isinstance(value, c.Deref) and isinstance(value.pointer, c.Var) and value.pointer.variable is pointer
+    return isinstance(value, c.Deref) and is_of(value.pointer, pointer)
 
 
-def as_it_was(one):
+def as_it_was(one: c.Expression) -> c.Expression:
     """A number that was made wider and narrow again, as it was."""
-    is_back = isinstance(one, c.Cast) and isinstance(one.operand, c.Cast) and one.operand.operand.of.text() == one.of.text()
-    return one.operand.operand if is_back and one.operand.of.bits >= one.of.bits else one
+    if not isinstance(one, c.Cast) or not isinstance(one.operand, c.Cast):
+        return one
+    inner = one.operand.operand
+    return inner if inner.of.text() == one.of.text() and c.bits(one.operand.of) >= c.bits(one.of) else one
 
 
 # Returns, conditions and loops.
 
-def pretty(statements):
+
+def pretty(statements: Statements) -> Statements:
     """The same statements, as one would write them."""
-    out = []
+    out = Statements()
     for one in statements:
         out += pretty_one(one)
     out = counted(returned(sunk(in_conditions(out))))
     for order, one in enumerate(out):
         # What is behind a branch that leaves needs no `else`.
         if isinstance(one, c.If) and one.no and c.leaves(one.yes):
-            return [*out[:order], c.If(one.condition, one.yes, []), *pretty([*one.no, *out[order + 1:]])]
+            return [*out[:order], c.If(one.condition, one.yes, []), *pretty([*one.no, *out[order + 1 :]])]
     return out
 
 
-def pretty_one(one):
+def pretty_one(one: c.Statement) -> Statements:
     if isinstance(one, c.If):
         return pretty_if(c.If(one.condition, pretty(one.yes), pretty(one.no)))
     if isinstance(one, c.Switch):
@@ -875,7 +912,7 @@ def pretty_one(one):
     return [one]
 
 
-def pretty_if(one):
+def pretty_if(one: c.If) -> Statements:
     yes, no, condition = one.yes, one.no, one.condition
     both = as_value(one)
     if both:
@@ -887,18 +924,18 @@ def pretty_if(one):
     return [c.If(condition, yes, no)]
 
 
-def as_value(one):
+def as_value(one: c.If) -> c.Set | None:
     """Two branches that set the same place, as one assignment."""
-    if not (len(one.yes) == len(one.no) == 1 and all(isinstance(branch[0], c.Set) for branch in (one.yes, one.no))):
+    if not len(one.yes) == len(one.no) == 1:
         return None
     yes, no = one.yes[0], one.no[0]
-    if not isinstance(yes.to, c.Var) or not isinstance(no.to, c.Var) or yes.to.variable is not no.to.variable:
+    if not isinstance(yes, c.Set) or not isinstance(no, c.Set) or not isinstance(yes.to, c.Var) or not is_of(no.to, yes.to.variable):
         return None
     value = chosen(one.condition, yes.value, no.value)
     return c.Set(yes.to, value) if value is not None else None
 
 
-def chosen(condition, yes, no):
+def chosen(condition: c.Expression, yes: c.Expression, no: c.Expression) -> c.Expression | None:
     """One value or another, by a condition, if that is short."""
     for word, other, operator in (("true", no, "||"), ("false", yes, "&&")):
         fixed = yes if word == "true" else no
@@ -917,7 +954,7 @@ def chosen(condition, yes, no):
     return made
 
 
-def sunk(statements):
+def sunk(statements: Statements) -> Statements:
     """`return` in each branch, instead of a variable that each branch sets."""
     if len(statements) < 2 or not isinstance(statements[-1], c.Return) or not isinstance(statements[-1].value, c.Var):
         return statements
@@ -925,54 +962,52 @@ def sunk(statements):
     if variable.is_parameter or not isinstance(choice, (c.If, c.Switch)):
         return statements
     bodies = branches(choice)
-    if any(not (c.leaves(body) or body and isinstance(body[-1], c.Set) and isinstance(body[-1].to, c.Var) and body[-1].to.variable is variable
-                or body and isinstance(body[-1], (c.If, c.Switch))) for body in bodies):
+    if not all(c.leaves(body) or body and (assigns(body[-1], variable) or isinstance(body[-1], (c.If, c.Switch))) for body in bodies):
         return statements
     if isinstance(choice, c.If) and not choice.no:
         return statements
 
-    def with_return(body):
+    def with_return(body: Statements) -> Statements:
         if c.leaves(body):
             return body
-        if isinstance(body[-1], c.Set) and isinstance(body[-1].to, c.Var) and body[-1].to.variable is variable:
+        if isinstance(body[-1], c.Set) and assigns(body[-1], variable):
             return [*body[:-1], c.Return(body[-1].value)]
         return sunk([*body, c.Return(c.Var(variable))])
 
     return [*statements[:-2], with_branches(choice, [with_return(body) for body in bodies])]
 
 
-def in_conditions(statements):
+def in_conditions(statements: Statements) -> Statements:
     """`a && b` or `a || b`, where a variable is set to the first and then, if that leaves it open, to the second."""
-    out = []
+    out = Statements()
     for one in statements:
         first = out[-1] if out else None
         if isinstance(one, c.If) and not one.no and len(one.yes) == 1 and isinstance(one.yes[0], c.Set) and isinstance(first, c.Set):
             operator, variable = ("||", c.negated(one.condition)) if isinstance(one.condition, c.Unary) else ("&&", one.condition)
-            second = one.yes[0]
-            if all(isinstance(to, c.Var) and isinstance(variable, c.Var) and to.variable is variable.variable for to in (first.to, second.to)) \
-                    and not uses(c.Do(second.value), variable.variable):
+            second, flag = one.yes[0], variable.variable if isinstance(variable, c.Var) else None
+            if flag and assigns(first, flag) and assigns(second, flag) and not uses(c.Do(second.value), flag):
                 out[-1] = c.Set(first.to, c.Binary(operator, first.value, second.value, c.BOOL))
                 continue
         out.append(one)
     return out
 
 
-def returned(statements):
+def returned(statements: Statements) -> Statements:
     """`return` of a value, instead of a variable that is only set for it."""
     if len(statements) < 2 or not isinstance(statements[-1], c.Return) or not isinstance(statements[-1].value, c.Var):
         return statements
     last = statements[-2]
     variable = statements[-1].value.variable
-    if isinstance(last, c.Set) and isinstance(last.to, c.Var) and last.to.variable is variable and not variable.is_parameter:
+    if isinstance(last, c.Set) and assigns(last, variable) and not variable.is_parameter:
         return [*statements[:-2], c.Return(last.value)]
     return statements
 
 
-def counted(statements):
+def counted(statements: Statements) -> Statements:
     """A loop that counts, as a `for`."""
-    out = []
+    out = Statements()
     for order, one in enumerate(statements):
-        made = as_for(out, one, statements[order + 1:]) if isinstance(one, c.While) else None
+        made = as_for(out, one, statements[order + 1 :]) if isinstance(one, c.While) else None
         if made:
             first, loop = made
             out.remove(first)
@@ -981,12 +1016,12 @@ def counted(statements):
     return out
 
 
-def as_for(before, loop, behind):
+def as_for(before: Statements, loop: c.While, behind: Statements) -> tuple[c.Set, c.For] | None:
     step = loop.body[-1] if loop.body else None
     if not (isinstance(step, c.Set) and isinstance(step.to, c.Var) and isinstance(step.value, c.Binary) and step.value.operator == "+"):
         return None
     variable = step.to.variable
-    if not (isinstance(step.value.left, c.Var) and step.value.left.variable is variable) or variable.is_parameter:
+    if not is_of(step.value.left, variable) or variable.is_parameter:
         return None
     if continues(loop.body) or mentions(behind, variable) or not uses(loop, variable):
         return None
@@ -997,14 +1032,14 @@ def as_for(before, loop, behind):
         one = before[at]
         if not isinstance(one, c.Set):
             return None
-        if isinstance(one.to, c.Var) and one.to.variable is variable:
-            if mentions(before[at + 1:], variable) or mentions(before[:at], variable):
+        if assigns(one, variable):
+            if mentions(before[at + 1 :], variable) or mentions(before[:at], variable):
                 return None
             return one, c.For(one, loop.condition, step, loop.body[:-1])
     return None
 
 
-def narrow_counters(statements):
+def narrow_counters(statements: Statements) -> None:
     """Counts up to a constant of 32 bits in 32 bits, if what is counted is only compared with it."""
     for one in c.all_statements(statements):
         if not (isinstance(one, c.For) and isinstance(one.condition, c.Binary) and one.condition.operator == "<" and isinstance(one.first.to, c.Var)):
@@ -1015,11 +1050,11 @@ def narrow_counters(statements):
             variable.of = c.Number(32)
 
 
-def mentions(statements, variable):
-    return any(uses(one, variable) for one in c.all_statements(statements))
+def mentions(statements: Statements, variable: c.Variable) -> bool:
+    return any(is_of(part, variable) for part in c.all_parts(statements))
 
 
-def continues(statements):
+def continues(statements: Statements) -> bool:
     for one in statements:
         if isinstance(one, c.Continue):
             return True
@@ -1030,15 +1065,17 @@ def continues(statements):
 
 # Types and declarations.
 
-def settle(statements, result):
+
+def settle(statements: Statements, result: c.Type) -> None:
     """Puts a cast where a number that any type may be a part of is used as a size of memory."""
-    def fit(value, to):
+
+    def fit(value: c.Expression, to: c.Type) -> c.Expression:
         if not (isinstance(value.of, c.Number) and isinstance(to, c.Number)) or isinstance(value, c.Literal):
             return value
         mine, wanted = value.of.text(), to.text()
         return c.Cast(to, value) if mine != wanted and {mine, wanted} == {"size_t", "uint64_t"} and wanted == "size_t" else value
 
-    def change(one):
+    def change(one: c.Expression) -> c.Expression:
         if isinstance(one, c.Binary) and one.operator not in c.LOGICAL | {"<<", ">>"}:
             sized = next((side.of for side in (one.left, one.right) if isinstance(side.of, c.Number) and side.of.text() == "size_t"), None)
             if sized:
@@ -1058,7 +1095,7 @@ def settle(statements, result):
             one.value = fit(one.value, result)
 
 
-def is_quiet(one, quiet):
+def is_quiet(one: c.Statement, quiet: set[str]) -> bool:
     """Whether a statement or an expression only computes: it writes nothing but variables, and calls what does the same."""
     for each in c.all_statements([one]):
         if isinstance(each, c.Set) and root(each.to) is None or isinstance(each, c.Do) and not calls_quietly(each.call, quiet):
@@ -1068,13 +1105,13 @@ def is_quiet(one, quiet):
     return True
 
 
-def calls_quietly(expression, quiet):
+def calls_quietly(expression: c.Expression, quiet: set[str]) -> bool:
     return all(part.is_pure or part.name in quiet for part in c.every(expression) if isinstance(part, c.CallOf))
 
 
-def without_quiet(statements, quiet):
+def without_quiet(statements: Statements, quiet: set[str]) -> Statements:
     """The same without calls that only compute what nobody reads."""
-    out = []
+    out = Statements()
     for one in statements:
         for body in c.lists(one):
             body[:] = without_quiet(body, quiet)
@@ -1084,7 +1121,7 @@ def without_quiet(statements, quiet):
     return out
 
 
-def compared_widely(one):
+def compared_widely(one: c.Binary) -> c.Expression:
     """A comparison of a size of memory with a number that has more than 16 bits, as one of numbers that have them on each processor."""
     if one.operator in c.COMPARISONS and isinstance(one.right, c.Literal) and 0xFFFF < one.right.value < 1 << 32:
         wide = c.Number(64, c.Width(False))
@@ -1092,26 +1129,20 @@ def compared_widely(one):
     return one
 
 
-def unread(statements, parameters):
+def unread(statements: Statements, parameters: Sequence[c.Variable]) -> Statements:
     """Statements that name the parameters which nothing reads, so that no compiler warns."""
-    read = {part.variable for one in c.all_statements(statements) for expression in c.expressions(one) for part in c.every(expression)
-            if isinstance(part, c.Var)}
+    read = {part.variable for part in c.all_parts(statements) if isinstance(part, c.Var)}
     return [c.Do(c.Cast(c.VOID, c.Var(one))) for one in parameters if one not in read]
 
 
-def declare(statements, parameters):
+def declare(statements: Statements) -> None:
     """Declares each variable where it is first set, or before the first statement that has it."""
-    place_of = {}
-    for one in c.all_statements(statements):
-        for expression in c.expressions(one):
-            for part in c.every(expression):
-                if isinstance(part, c.Var) and not part.variable.is_parameter:
-                    place_of.setdefault(part.variable, None)
-    for variable in place_of:
+    found = [part.variable for part in c.all_parts(statements) if isinstance(part, c.Var) and not part.variable.is_parameter]
+    for variable in dict.fromkeys(found):
         declare_one(statements, variable)
 
 
-def declare_one(statements, variable):
+def declare_one(statements: Statements, variable: c.Variable) -> None:
     has = [one for one in statements if mentions([one], variable)]
     if len(has) == 1:
         one = has[0]
@@ -1123,14 +1154,13 @@ def declare_one(statements, variable):
             declare_one(inner[0], variable)
             return
     first = has[0]
-    if isinstance(first, c.Set) and isinstance(first.to, c.Var) and first.to.variable is variable and not any(
-            isinstance(part, c.Var) and part.variable is variable for part in c.every(first.value)):
+    if isinstance(first, c.Set) and assigns(first, variable) and not uses(c.Do(first.value), variable):
         first.declares = True
         return
     statements.insert(statements.index(first), c.Declare(variable))
 
 
-def run(statements, result, with_names):
+def run(statements: Statements, result: c.Type, with_names: WithNames) -> Statements:
     """All steps."""
     try:
         statements = structured(statements)
@@ -1141,7 +1171,7 @@ def run(statements, result, with_names):
     return statements
 
 
-def structured_otherwise(statements):
+def structured_otherwise(statements: Statements) -> Statements:
     """Blocks and their exits, where they do not become branches as they are."""
     try:
         return structured(with_short_rests(statements))
@@ -1149,7 +1179,7 @@ def structured_otherwise(statements):
         return structured(with_returns(statements))
 
 
-def refined(statements, with_names):
+def refined(statements: Statements, with_names: WithNames) -> Statements:
     """The same statements, after each step until none changes anything."""
     for _ in range(200):
         simplify(statements)
@@ -1170,6 +1200,6 @@ def refined(statements, with_names):
     return statements
 
 
-def shape(statements):
+def shape(statements: Statements) -> list[tuple[object, ...]]:
     """What tells whether a step has changed something."""
     return [(type(one).__name__, *(shape(body) for body in c.lists(one)), len(c.expressions(one))) for one in statements]

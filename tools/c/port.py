@@ -1,4 +1,6 @@
 """The pair uart_port: the chip and the port for monitors, with the functions of the header of the library for C that the kit builds."""
+from __future__ import annotations
+
 import collections
 import pathlib
 import re
@@ -8,8 +10,10 @@ import textwrap
 import names
 from header import LICENCE
 from kit import program_of
-from library import Library, Unknown
-from names import snake
+from library import Known, Library, Unknown
+from names import snake, sought
+from translate import Program, Type
+from tree import Key
 
 FOLDER = pathlib.Path(__file__).resolve().parent
 ROOT = FOLDER.parent.parent
@@ -89,7 +93,7 @@ TOP = f"""{LICENCE}/*
 """
 
 
-def exported(folder):
+def exported(folder: pathlib.Path | None) -> tuple[Program, dict[str, str]]:
     """The program, and the functions of the header by their names there."""
     program, header = program_of(OWN, folder, f"./prove --library {EXPORTS}"), Header.read()
     exports = {f.split("::")[-1]: f for f in program.functions if f.startswith(f"{EXPORTS}::") and f.split("::")[-1] in header.prototypes}
@@ -99,13 +103,16 @@ def exported(folder):
     return program, exports
 
 
-def made(folder):
+def made(folder: pathlib.Path | None) -> tuple[dict[str, str], Library]:
     """The texts of the header and of the source."""
     (program, exports), header, source = exported(folder), Header.read(), names.Source(ROOT, OWN)
-    public = {("Named", name, ()): snake(name.split("::")[-1]) for name in program.types
-              if name.startswith(f"{EXPORTS}::") and f"struct {snake(name.split('::')[-1])} {{" in header.text}
+    public = {
+        ("Named", name, ()): snake(name.split("::")[-1])
+        for name in program.types
+        if name.startswith(f"{EXPORTS}::") and f"struct {snake(name.split('::')[-1])} {{" in header.text
+    }
     library = translated(program, source, public, exports, header, {}, {})
-    clashes, known = library.clashes(), {}
+    clashes, known = library.clashes(), dict[Key, Known]()
     if clashes:
         library = translated(program, source, public, exports, header, clashes, known)
     # What is left out of a function may leave one constant for those that it calls.
@@ -119,12 +126,24 @@ def made(folder):
         if header.numbers.get(name, value) != value:
             sys.exit(f"emit: {name} is {header.numbers[name]:#x} in the header, and {value:#x} in what is proved")
     own = named_in(library.types.declarations, library.text())
-    texts = [TOP + INLINE + constants(library, header.numbers), "\n".join(own), shared(inlined(guarded(library.text()))),
-             guarded(header.functions_by_hand())]
+    texts = [
+        TOP + INLINE + constants(library, header.numbers),
+        "\n".join(own),
+        shared(inlined(guarded(library.text()))),
+        guarded(header.functions_by_hand()),
+    ]
     return {"uart_port.h": header.made(library), "uart_port.c": "\n".join(texts)}, library
 
 
-def translated(program, source, public, exports, header, clashes, known):
+def translated(
+    program: Program,
+    source: names.Source,
+    public: dict[Type, str],
+    exports: dict[str, str],
+    header: Header,
+    clashes: dict[Key, str],
+    known: dict[Key, Known],
+) -> Library:
     """The functions of the header and all that they need, with these names for those that would have one with another, and without the
     parameters that are known."""
     library = Library(program, source, public, OWN, "UART", clashes, known)
@@ -141,9 +160,10 @@ def translated(program, source, public, exports, header, clashes, known):
     return library
 
 
-def guarded(text):
+def guarded(text: str) -> str:
     """A text whose functions of the header refuse null."""
-    def guard(found):
+
+    def guard(found: re.Match[str]) -> str:
         pointers = re.findall(r"\*(\w+)(?=,|$)", re.sub(r"\s+", " ", found[3]))
         if not pointers:
             return found[0]
@@ -160,7 +180,7 @@ def guarded(text):
     )
 
 
-def inlined(text):
+def inlined(text: str) -> str:
     """A text in which the functions that are to be inlined in any case say so."""
     for name in ALWAYS:
         text, count = re.subn(rf"(?m)^static inline (?=[\w ]+\n?{name}\()", "UART_INLINE ", text)
@@ -169,13 +189,13 @@ def inlined(text):
     return text
 
 
-def shared(text):
+def shared(text: str) -> str:
     """A text in which the functions of SHARE call one that is out of line, in the place of one that is inlined."""
-    found = re.search(rf"(?m)^UART_INLINE void\n{SHARED}\(([^()]*)\)\n\{{\n[\s\S]*?^\}}\n", text)
+    found = sought(rf"(?m)^UART_INLINE void\n{SHARED}\(([^()]*)\)\n\{{\n[\s\S]*?^\}}\n", text)
     name, given = f"{SHARED}_apart", ", ".join(re.findall(r"\w+(?=,|$)", found[1]))
     comment = "/* The same, for calls that are not to have all of it in their place. */"
     made = f"\n{comment}\nstatic UART_APART void\n{name}({found[1]})\n{{\n    {SHARED}({given});\n}}\n"
-    text = text[:found.end()] + made + text[found.end():]
+    text = text[: found.end()] + made + text[found.end() :]
     for one in SHARE:
         text, count = re.subn(rf"(?m)(^[^\n]*\b{one}\([^;{{}}]*\)\n\{{\n(?:(?!\}}\n).*\n)*?    ){SHARED}\(", rf"\1{name}(", text)
         if count != 1:
@@ -183,9 +203,9 @@ def shared(text):
     return text
 
 
-def named_in(declarations, text):
+def named_in(declarations: list[tuple[str, str]], text: str) -> list[str]:
     """The declarations of the types that a text names, and of those that they are made of."""
-    out = []
+    out = list[str]()
     for name, declaration in reversed(declarations):
         if re.search(rf"\b(struct|enum) {name}\b", text):
             out.insert(0, declaration)
@@ -193,12 +213,12 @@ def named_in(declarations, text):
     return out
 
 
-def constants(library, known):
+def constants(library: Library, known: dict[str, int]) -> str:
     bits = [f"    {name} = {value:#04x}" for name, value in sorted(library.bits.items()) if name not in known]
     return "/* Bits that are in no interface. */\nenum {\n" + ",\n".join(bits) + "\n};\n" if bits else ""
 
 
-def proved_of(library, name):
+def proved_of(library: Library, name: str) -> list[str]:
     """What is proved of a function of the header, as lines. That a struct which has one value for each meaning keeps it is said once."""
     function = next((library.source.find(one) for one, (its, _) in library.exports.items() if its == name), None)
     clauses = library.source.clauses(function, is_plain) if function else []
@@ -206,14 +226,14 @@ def proved_of(library, name):
     return [line for one in told for line in textwrap.wrap(one, 110, subsequent_indent="    ", break_long_words=False)]
 
 
-def is_plain(definition):
+def is_plain(definition: names.Definition | None) -> bool:
     """Whether a definition says only how C has a value."""
     return definition is not None and (
         definition[:2] in ((EXPORTS, "State"), (EXPORTS, "Queue"), (EXPORTS, "Port")) or definition[1:] == ("Bits", "flag")
     )
 
 
-def padded(text):
+def padded(text: str) -> str:
     """A text whose structs have no place for bytes of a compiler's own: so they are the same whatever it is told, as by -fpack-struct."""
     for last, padding in PADDING.items():
         if text.count(f"{last}\n}};\n") != 1:
@@ -226,37 +246,50 @@ class Header:
     """The header of the pair, of that of the library and of that which writes and reads a chip as bytes."""
 
     @classmethod
-    def read(cls):
+    def read(cls) -> Header:
         return cls(*((INCLUDE / f"uart_16550{one}.h").read_text(encoding="ascii") for one in ("", "_state")))
 
-    def __init__(self, library, state):
+    def __init__(self, library: str, state: str) -> None:
         start = library.index("/* What most functions return.")
         end = library.index("/* ---------------------------------------------------------------- the driver")
         self.text, self.state = padded(library[start:end].rstrip() + "\n"), state
         # The functions of the header, with the names of their parameters.
-        self.prototypes = {found[1]: [re.search(r"\w+$", one.strip())[0] for one in found[2].split(",")] for found in
-                           re.finditer(r"(?m)^\w[\w ]*?\*?\b(uart_\w+)\(([^()]*)\);", self.text)}
+        self.prototypes = {
+            found[1]: [sought(r"\w+$", one.strip())[0] for one in found[2].split(",")]
+            for found in re.finditer(r"(?m)^\w[\w ]*?\*?\b(uart_\w+)\(([^()]*)\);", self.text)
+        }
         # The registers and bits by their names.
         self.numbers = {found[1]: int(found[2], 0) for found in re.finditer(r"(?m)^#define (UART_\w+) (0x[0-9a-f]+|\d+)\b", self.text)}
 
         offsets = {found[1]: int(found[2]) for found in re.finditer(r"(?m)^#define UART_OFFSET_(\w+) (\d)\b", self.text)}
         self.registers = [{offsets[name]: f"UART_OFFSET_{name}" for name in one} for one in (READ, WRITTEN)]
-        statuses = re.search(r"enum uart_status \{(.*?)\};", self.text, re.S)[1]
+        statuses = sought(r"enum uart_status \{(.*?)\};", self.text, re.S)[1]
         self.statuses = {int(found[2]): found[1] for found in re.finditer(r"(\w+) = (\d+)", statuses)}
 
-    def made(self, library):
+    def made(self, library: Library) -> str:
         """The text of the header."""
-        text = "\n".join([INTRODUCTION + f"#ifndef {GUARD}\n#define {GUARD}\n", OTHER, "#include <stddef.h>\n#include <stdint.h>\n", CPLUSPLUS,
-                          self.text + SIZES, self.declared_state(), CPLUSPLUS_END, "#endif\n"])
-        def told(found):
+        text = "\n".join(
+            [
+                INTRODUCTION + f"#ifndef {GUARD}\n#define {GUARD}\n",
+                OTHER,
+                "#include <stddef.h>\n#include <stdint.h>\n",
+                CPLUSPLUS,
+                self.text + SIZES,
+                self.declared_state(),
+                CPLUSPLUS_END,
+                "#endif\n",
+            ]
+        )
+
+        def told(found: re.Match[str]) -> str:
             lines = proved_of(library, found[2])
             if not lines:
                 return found[0]
             comment = found[1].rstrip()
-            inner = re.fullmatch(r"/\*\s(.*?)\s*\*/", comment, flags=re.S)[1] if comment.count("\n") == 0 else None
+            inner = sought(r"\A/\*\s(.*?)\s*\*/\Z", comment, re.S)[1] if comment.count("\n") == 0 else None
             if inner is not None:
                 comment = f"/*\n * {inner}\n */"
-            comment = comment[:-len(" */")].rstrip() + "\n *\n" + "".join(f" * {one}\n" for one in lines) + " */\n"
+            comment = comment[: -len(" */")].rstrip() + "\n *\n" + "".join(f" * {one}\n" for one in lines) + " */\n"
             return comment + found[3]
 
         for before, status in BEFORE_NULL.items():
@@ -266,17 +299,17 @@ class Header:
         text = guarded(text)
         return re.sub(r"(?m)((?:^/\*(?:(?!\*/)[\s\S])*\*/\n))(?=\w[^\n]*\b(uart_\w+)\()(\w[^\n]*)", told, text)
 
-    def declared_state(self):
+    def declared_state(self) -> str:
         """What is declared of a chip as bytes: the numbers, and the functions that are called."""
         start = self.state.index("/* How many bytes a state is")
         end = self.state.index("/* ------------------------------------------------------------------ the layout")
-        called = self.state[self.state.index("/* --------------------------------------------------------------- what is called"):]
+        called = self.state[self.state.index("/* --------------------------------------------------------------- what is called") :]
         called = re.sub(r"(?m)^static inline (\w[^{]*?)\n\{\n.*?^\}\n", r"\1;\n", called, flags=re.S | re.M)
-        called = called[:called.index("#ifdef __cplusplus")].rstrip() + "\n"
+        called = called[: called.index("#ifdef __cplusplus")].rstrip() + "\n"
         called = re.sub(r"/\* -+ what is called\n \*\n", "/*\n", called)
         return STATE + self.state[start:end].rstrip() + "\n\n" + called
 
-    def functions_by_hand(self):
+    def functions_by_hand(self) -> str:
         """The functions that write and read a chip as bytes."""
         start = self.state.index("enum uart_state_layout {")
         end = self.state.rindex("#ifdef __cplusplus")
@@ -287,20 +320,22 @@ class Header:
 
 
 # The statuses that refuse null, by functions, and what they are added behind.
-NULL_STATUS = collections.defaultdict(lambda: "UART_NULL_POINTER", uart_chip_to_bytes="UART_STATE_NULL_POINTER",
-                                      uart_chip_from_bytes="UART_STATE_NULL_POINTER")
+NULL_STATUS = collections.defaultdict(
+    lambda: "UART_NULL_POINTER", uart_chip_to_bytes="UART_STATE_NULL_POINTER", uart_chip_from_bytes="UART_STATE_NULL_POINTER"
+)
 BEFORE_NULL = {
-    "UART_BAD_PORT = 6,   /* the saved data are those of no port */\n":
-        "    UART_NULL_POINTER = 7, /* a pointer is null: nothing was done */\n",
-    "UART_STATE_BAD_VALUE = 6,    /* a byte that its field cannot have: the offset of the byte */\n":
-        "    UART_STATE_NULL_POINTER = 7, /* a pointer is null: nothing is written */\n",
+    "UART_BAD_PORT = 6,   /* the saved data are those of no port */\n": "    UART_NULL_POINTER = 7, /* a pointer is null: nothing was done */\n",
+    "UART_STATE_BAD_VALUE = 6,    /* a byte that its field cannot have: the offset of the byte */\n": (
+        "    UART_STATE_NULL_POINTER = 7, /* a pointer is null: nothing is written */\n"
+    ),
 }
 # What is behind the last member of a struct, in the place of the bytes that a compiler puts there on 64 bits.
 PADDING = {
     "    struct uart_wire wire;": "    uint8_t padding[5];",
     "    uint8_t cuts;            /* characters are cut to the word length of LCR */": "    uint8_t padding[2];",
-    "    uint8_t has_room;        /* offer input again: there was no room, and there is now. It is told once, when nothing waits */":
-        "#if SIZE_MAX > 0xffffffff\n    uint8_t padding[4];\n#endif",
+    "    uint8_t has_room;        /* offer input again: there was no room, and there is now. It is told once, when nothing waits */": (
+        "#if SIZE_MAX > 0xffffffff\n    uint8_t padding[4];\n#endif"
+    ),
     "    struct uart_told told;": "    uint8_t padding[4];",
 }
 SIZES = """

@@ -1,14 +1,22 @@
 """How each type of the MIR is a type of C."""
+from __future__ import annotations
+
+import dataclasses
 import re
 import textwrap
+from collections.abc import Sequence
 
 from names import snake
+import syntax
+from names import Source
 from syntax import BOOL, BYTE, SIZE, VOID, Code, Named, Number, Pointer, Width, declared
-from translate import Unknown, head
-from tree import DEVICE, MEMORY, PATIENCE, PORTS
+from translate import Type, Unknown, head
+from tree import DEVICE, MEMORY, PATIENCE, PORTS, Forest
 
-RESERVED = set("char int short long switch default case break register if else for while do return signed unsigned float double const static "
-               "auto union struct enum void bool true false class new delete this private public template typename".split())
+RESERVED = set(
+    "char int short long switch default case break register if else for while do return signed unsigned float double const static "
+    "auto union struct enum void bool true false class new delete this private public template typename".split()
+)
 OF_CALLER_TYPES = {DEVICE: "struct u16550_device", PATIENCE: "struct uart_patience", PORTS: "struct uart_line_ports", MEMORY: "struct uart_memory *"}
 NO_DEVICE = "{ { NULL, NULL, NULL }, 0, 0 }"
 VECTOR = "std_alloc::vec::Vec"
@@ -17,28 +25,39 @@ OPTION, RESULT = "core::option::Option", "core::result::Result"
 FEW = 3
 
 
-def is_closure(of):
+def is_closure(of: Type) -> bool:
     return isinstance(of, tuple) and of[0] == "Named" and of[1].endswith("+Self")
 
 
+@dataclasses.dataclass(frozen=True)
 class Kind:
-    """What a type is in C: `kind` is a word, and `parts` what belongs to it."""
+    """What a type is in C, as a word, and what belongs to it."""
 
-    def __init__(self, kind, *parts):
-        self.kind, self.parts = kind, parts
+    kind: str
+    # What is in it: the value of an option or of a result, the pointer of a slice, what a wrapper is around, a reference that may be null.
+    value: Type = None
+    # Of an option: the number of the variant that has the value, the member that tells of it, and the member that is it.
+    full: int = 0
+    flag: str = ""
+    member: str = ""
+    # The error of a result.
+    error: Type = None
+    # Which part of a wrapper is what it is around; and the part that is a slice of what has nothing else, as of an iterator.
+    order: int = 0
+    inside: Type = None
 
 
 class Representation:
     """`public` has the C names of types that the header has already. The types that a driver with rings is made of are in the header."""
 
-    def __init__(self, forest, source, public):
+    def __init__(self, forest: Forest, source: Source, public: dict[Type, str]) -> None:
         self.forest, self.source, self.public = forest, source, public
-        self.kinds, self.names, self.declarations, self.makers = {}, {}, [], {}
-        self.in_header = set()
+        self.kinds, self.names, self.declarations = dict[Type, Kind](), dict[str, str](), list[tuple[str, str]]()
+        self.in_header = set[Type]()
         # The enums of which nobody reads more than which variant one is: in C they are plain.
-        self.bare = set()
+        self.bare = set[str]()
 
-    def put_into_header(self, of):
+    def put_into_header(self, of: Type) -> None:
         """The names of this type, and of all that it is made of, begin as those of the header do."""
         if not isinstance(of, tuple) or of in self.in_header or of in OF_CALLER_TYPES:
             return
@@ -52,15 +71,15 @@ class Representation:
 
     # What a type is.
 
-    def kind(self, of):
+    def kind(self, of: Type) -> Kind:
         if of not in self.kinds:
             self.kinds[of] = self.find_kind(of)
         return self.kinds[of]
 
-    def is_unit(self, of):
+    def is_unit(self, of: Type) -> bool:
         return self.kind(of).kind == "unit"
 
-    def shape(self, of):
+    def shape(self, of: Type) -> tuple[str, list[list[Type]]]:
         """Of a struct or an enum: "Fields" or "Variants", and the types of the parts of each."""
         if of[0] == "Struct":
             return "Fields", [list(of[2])]
@@ -72,7 +91,7 @@ class Representation:
             value = value[:3]
         return kind, [[self.forest.type(one, of[2]) for one in part] for part in ([value] if kind == "Fields" else value)]
 
-    def find_kind(self, of):
+    def find_kind(self, of: Type) -> Kind:
         if of in ("Unit", "Never"):
             return Kind("unit")
         if of == "Bool":
@@ -101,7 +120,7 @@ class Representation:
             return self.kind_of_result(*of[2])
         shape, parts = self.shape(of)
         if name.endswith("ErrResidual"):
-            return Kind("wrapper", 0, parts[0][0])
+            return Kind("wrapper", parts[0][0])
         if shape == "Variants":
             is_plain = name in self.bare or all(self.is_unit(one) for part in parts for one in part)
             return Kind("enum") if is_plain else Kind("tagged")
@@ -110,26 +129,26 @@ class Representation:
             return Kind("unit")
         if len(full) == 1 and self.kind(parts[0][full[0]]).kind == "slice":
             # As an iterator: what it is around is a slice, and so is it.
-            return Kind("slice", self.kind(parts[0][full[0]]).parts[0], parts[0][full[0]])
+            return Kind("slice", self.kind(parts[0][full[0]]).value, inside=parts[0][full[0]])
         # One of the header is the struct that it is there.
         if len(full) == 1 and of not in self.public and self.kind(parts[0][full[0]]).kind in ("number", "bool"):
-            return Kind("wrapper", full[0], parts[0][full[0]])
+            return Kind("wrapper", parts[0][full[0]], order=full[0])
         return Kind("struct")
 
-    def kind_of_result(self, value, error):
+    def kind_of_result(self, value: Type, error: Type) -> Kind:
         """`Ok` is 0 in C, or what the error has for none: no error is number 0."""
         if self.is_unit(error):
             return Kind("option", value, 0, "is_some", "value")
         if self.kind(error).kind in ("enum", "tagged"):
-            return Kind("status", error) if self.is_unit(value) else Kind("outcome", value, error)
+            return Kind("status", error=error) if self.is_unit(value) else Kind("outcome", value, error=error)
         if self.is_unit(value):
             return Kind("option", error, 1, "is_error", "error")
         if self.kind(error).kind in ("wrapper", "struct"):
-            return Kind("either", value, error)
+            return Kind("either", value, error=error)
         raise Unknown(f"a result of {value} and {error}")
 
     @staticmethod
-    def same_as(of):
+    def same_as(of: Type) -> Type:
         """The result or option that a `ControlFlow` says the same as."""
         first, value = of[2]
         if first[1].endswith("NoValue"):
@@ -139,11 +158,11 @@ class Representation:
     # Names.
 
     @staticmethod
-    def own(of):
+    def own(of: Type) -> tuple[str, str]:
         path = of[1].split("::")
         return path[0], path[-1]
 
-    def plain_name(self, of):
+    def plain_name(self, of: Type) -> str:
         """The name of a type without `struct`."""
         if of in self.public:
             return self.public[of]
@@ -154,16 +173,16 @@ class Representation:
             name = f"{self.own(of)[0]}_{name.removeprefix('uart_')}"
         return re.sub("^uart_", "u16550_core_", name) if self.is_in_header(of) else name
 
-    def canonical(self, of):
+    def canonical(self, of: Type) -> Type:
         """The type of those that are the same in C: a result whose error says nothing is an option."""
         if not isinstance(of, tuple) or of[0] != "Named":
             return of
         if of[1] == "core::ops::ControlFlow":
             return self.canonical(self.same_as(of))
         kind = self.kind(of)
-        return ("Named", OPTION, (kind.parts[0],)) if kind.kind == "option" and kind.parts[2] == "is_some" else of
+        return ("Named", OPTION, (kind.value,)) if kind.kind == "option" and kind.flag == "is_some" else of
 
-    def other_name(self, of):
+    def other_name(self, of: Type) -> str:
         if of in ("Unit", "Bool", "Ptr"):
             return {"Unit": "nothing", "Bool": "bool", "Ptr": "pointer"}[of]
         if of[0] == "Int":
@@ -181,9 +200,9 @@ class Representation:
             return f"uart_pair_of_{names[0]}" if len(set(names)) == 1 else "uart_pair_of_" + "_and_".join(names)
         kind = self.kind(of)
         if kind.kind == "option":
-            return f"uart_maybe_{self.bare_name(kind.parts[0])}"
+            return f"uart_maybe_{self.bare_name(kind.value)}"
         if kind.kind in ("outcome", "either"):
-            return f"uart_{self.bare_name(kind.parts[0])}_or_{self.bare_name(kind.parts[1])}"
+            return f"uart_{self.bare_name(kind.value)}_or_{self.bare_name(kind.error)}"
         base = snake(of[1].split("::")[-1])
         base = "pair_of" if base.startswith("(") else re.sub("uart16550_?", "", base) or "driver"
         inner = [self.bare_name(one) for one in of[2] if one not in OF_CALLER_TYPES]
@@ -191,10 +210,10 @@ class Representation:
             inner = inner[:1]
         return "_".join(["uart", base, *inner])
 
-    def bare_name(self, of):
+    def bare_name(self, of: Type) -> str:
         return re.sub(r"^(uart|u16550_core|u16550)_", "", self.plain_name(of))
 
-    def variants(self, of):
+    def variants(self, of: Type) -> list[tuple[str, list[str], list[Type]]]:
         """Of an enum: the name, the names of the parts and their types of each variant."""
         _, parts = self.shape(of)
         named = self.source.variants.get(self.own(of))
@@ -202,38 +221,39 @@ class Representation:
             named = [(f"Case{order}", [f"part{place}" for place, _ in enumerate(part)]) for order, part in enumerate(parts)]
         return [(name, fields, part) for (name, fields), part in zip(named, parts)]
 
-    def fields(self, of):
+    def fields(self, of: Type) -> list[tuple[str, Type]]:
         """Of a struct: the names and types of its parts."""
         parts = self.shape(of)[1][0]
         names = self.source.fields.get(self.own(of)) if of[0] == "Named" else None
         if of[0] == "Named" and of[1] == VECTOR:
             names = ["data", "len", "capacity"]
         if not names or len(names) != len(parts):
-            names = [f"part{order}" for order, _ in enumerate(parts)] if len(parts) > 4 else ["first", "second", "third", "fourth"][:len(parts)]
+            names = [f"part{order}" for order, _ in enumerate(parts)] if len(parts) > 4 else ["first", "second", "third", "fourth"][: len(parts)]
         return list(zip(map(safe, names), parts))
 
-    def is_size(self, of, order):
+    def is_size(self, of: Type, order: int) -> bool:
         """Whether a part of a struct counts bytes of memory."""
         if of[0] == "Named" and of[1] == VECTOR:
             return order > 0
         if of[0] == "Named" and "NonZero" in of[1]:
             return "Usize" in of[1]
         types = self.source.types_of_fields.get(self.own(of)) if of[0] == "Named" else None
-        return bool(types) and re.search(r"\b(usize|NonZeroUsize)\b", types[order]) is not None
+        return types is not None and re.search(r"\b(usize|NonZeroUsize)\b", types[order]) is not None
 
-    def is_of_library(self, of):
+    def is_of_library(self, of: Type) -> bool:
         """Whether a struct is one of a library that any type may be a part of: nobody says there what its numbers count."""
-        return of[0] == "Named" and of[1] != VECTOR and "NonZero" not in of[1] and self.own(of) not in self.source.types_of_fields
+        is_known = of[0] != "Named" or of[1] == VECTOR or "NonZero" in of[1]
+        return not is_known and self.own(of) not in self.source.types_of_fields
 
-    def is_error(self, of):
-        return of[1].endswith("Error")
+    def is_error(self, of: Type) -> bool:
+        return str(of[1]).endswith("Error")
 
-    def constant(self, of, tag):
+    def constant(self, of: Type, tag: int | None) -> str:
         """The C name of a variant, or of none."""
         prefix = self.plain_name(of).upper()
         return f"{prefix}_NONE" if tag is None else f"{prefix}_{snake(self.variants(of)[tag][0]).upper()}"
 
-    def part_name(self, of, tag, order):
+    def part_name(self, of: Type, tag: int, order: int) -> str:
         """The name of a part of a variant in the struct of C."""
         name, fields, part = self.variants(of)[tag]
         full = [one for one in part if not self.is_unit(one)]
@@ -241,7 +261,7 @@ class Representation:
 
     # Types of C.
 
-    def c(self, of, is_size=None):
+    def c(self, of: Type, is_size: bool | None = None) -> syntax.Type:
         """The C type of a value."""
         kind = self.kind(of)
         word = kind.kind
@@ -252,12 +272,12 @@ class Representation:
         if word == "number":
             return Number(of[1], (Width(is_size) if of[1] == 64 else None))
         if word == "wrapper":
-            return self.c(kind.parts[1], None if self.is_of_library(of) else self.is_size(of, kind.parts[0]))
+            return self.c(kind.value, None if self.is_of_library(of) else self.is_size(of, kind.order))
         if word == "pointer":
             return self.pointer(of)
         if word in ("nullable", "status"):
-            return self.c(kind.parts[0])
-        if word == "option" and self.is_unit(kind.parts[0]):
+            return self.c(kind.error if word == "status" else kind.value)
+        if word == "option" and self.is_unit(kind.value):
             return BOOL
         if of[0] == "Named" and of[1] == "core::ops::ControlFlow":
             return self.c(self.same_as(of))
@@ -266,20 +286,20 @@ class Representation:
         name = self.declare(of)
         return Code(name) if word == "enum" and self.is_in_header(of) else Named(name)
 
-    def tag(self, of):
+    def tag(self, of: Type) -> Named:
         """The C type of the number that says which variant an error is."""
         return (Code if self.is_in_header(of) else Named)(f"enum {self.plain_name(of)}_kind")
 
-    def is_in_header(self, of):
+    def is_in_header(self, of: Type) -> bool:
         return self.canonical(of) in self.in_header
 
-    def pointer(self, of):
+    def pointer(self, of: Type) -> Pointer:
         if of == "Ptr":
             return Pointer(BYTE)
         inner = of[1][1] if of[1][0] == "Array" else of[1]
         return Pointer(self.c(inner), not of[2])
 
-    def declare(self, of):
+    def declare(self, of: Type) -> str:
         """The C name of a struct or an enum, which is declared once."""
         name = self.plain_name(of)
         if of[0] == "Named" and of[1] == OPTION:
@@ -291,11 +311,11 @@ class Representation:
                 self.declarations.append((name, self.declaration(of, name)))
         return self.names[name]
 
-    def is_array_of_header(self, of, inner):
+    def is_array_of_header(self, of: Type, inner: Type) -> bool:
         """Whether a part of a struct is an array in C: only in a struct of the header, since an array cannot be assigned."""
         return of in self.public and inner[0] == "Array"
 
-    def member(self, whole, of, name, is_size=None):
+    def member(self, whole: Type, of: Type, name: str, is_size: bool | None = None) -> str:
         """A member of a struct of this type. In the header it is as wide as it is whatever a compiler is told, and by whatever name it has bool."""
         made = Pointer(BYTE) if of == "Ptr" else self.c(of, is_size)
         if self.is_in_header(whole) and made is BOOL:
@@ -303,50 +323,54 @@ class Representation:
         told = f" /* an {made.name} */" if isinstance(made, Code) else ""
         return f"    {declared(made, name)};{told}"
 
-    def declaration(self, of, name):
+    def declaration(self, of: Type, name: str) -> str:
         kind = self.kind(of)
         comment = self.comment(of)
         if kind.kind == "enum":
             return f"{comment}enum {name} {{\n" + ",\n".join(self.constants(of)) + "\n};\n"
         return f"{comment}struct {name} {{\n" + "\n".join(self.members(of, name)) + "\n};\n"
 
-    def constants(self, of):
+    def constants(self, of: Type) -> list[str]:
         first = 1 if self.is_error(of) else 0
         none = [f"    {self.constant(of, None)} = 0"] if first else []
         return none + [f"    {self.constant(of, order)} = {order + first}" for order, _ in enumerate(self.variants(of))]
 
-    def members(self, of, name):
+    def members(self, of: Type, name: str) -> list[str]:
         kind = self.kind(of)
         if kind.kind == "array":
             return [f"    {declared(self.c(of[1]), f'bytes[{of[2]}]')};"]
         if kind.kind == "option":
-            return [self.member(of, "Bool", kind.parts[2]), self.member(of, kind.parts[0], kind.parts[3])]
+            return [self.member(of, "Bool", kind.flag), self.member(of, kind.value, kind.member)]
         if kind.kind == "outcome":
-            return [self.member(of, kind.parts[1], "error"), self.member(of, kind.parts[0], "value")]
+            return [self.member(of, kind.error, "error"), self.member(of, kind.value, "value")]
         if kind.kind == "either":
-            return [self.member(of, "Bool", "is_error"), self.member(of, kind.parts[1], "error"), self.member(of, kind.parts[0], "value")]
+            return [self.member(of, "Bool", "is_error"), self.member(of, kind.error, "error"), self.member(of, kind.value, "value")]
         if kind.kind == "slice":
-            return [self.member(of, kind.parts[0], "data"), "    size_t len;"]
+            return [self.member(of, kind.value, "data"), "    size_t len;"]
         if kind.kind == "tagged":
             tags = self.tag(of)
             self.declarations.append((f"{name}_kind", f"{tags.name} {{\n" + ",\n".join(self.constants(of)) + "\n};\n"))
-            inner = [self.member(of, one, self.part_name(of, tag, order)) for tag, (_, _, part) in enumerate(self.variants(of))
-                     for order, one in enumerate(part) if not self.is_unit(one)]
+            inner = [
+                self.member(of, one, self.part_name(of, tag, order))
+                for tag, (_, _, part) in enumerate(self.variants(of))
+                for order, one in enumerate(part)
+                if not self.is_unit(one)
+            ]
             told = f" /* an {tags.name} */" if isinstance(tags, Code) else ""
             return [f"    {declared(tags, 'kind')};{told}", *inner]
         return [self.member(of, one, field, self.is_size(of, order)) for order, (field, one) in enumerate(self.fields(of)) if not self.is_unit(one)]
 
-    def comment(self, of):
+    def comment(self, of: Type) -> str:
         if of[0] != "Named" or of[1].startswith("core"):
             return ""
         return comment_of(self.source.comments.get(self.own(of), []))
 
 
-def safe(name):
+def safe(name: str) -> str:
     return name + "_" if name in RESERVED else name
 
 
-def comment_of(lines_of_source, indent="", proved=()):
+def comment_of(lines_of_source: list[str], indent: str = "", proved: Sequence[str] = ()) -> str:
     """A comment of Rust as one of C: without examples, and without marks of Rust. What is proved comes behind it."""
     out, is_example = [], False
     for one in lines_of_source:
@@ -369,7 +393,7 @@ def comment_of(lines_of_source, indent="", proved=()):
     return f"{indent}/*\n" + "".join(f"{indent} * {one}".rstrip() + "\n" for one in out) + f"{indent} */\n"
 
 
-def proved_lines(proved):
+def proved_lines(proved: Sequence[str]) -> list[str]:
     """What is proved, as the lines of a comment."""
     return [line for one in proved for line in textwrap.wrap(f"Proved: {one.replace('`', '')}.", 90)]
 

@@ -1,11 +1,17 @@
 """C as a typed tree, and its text."""
+from __future__ import annotations
+
 import dataclasses
-import typing
+from collections.abc import Callable, Iterable, Iterator
+from typing import TypeAlias
+
+from translate import Type as Meaning
 
 WIDTH = 100
 INDENT = "    "
-PRECEDENCE = {"*": 12, "/": 12, "%": 12, "+": 11, "-": 11, "<<": 10, ">>": 10, "<": 9, "<=": 9, ">": 9, ">=": 9, "==": 8, "!=": 8,
-              "&": 7, "^": 6, "|": 5, "&&": 4, "||": 3}
+# The operators, by how tightly they bind.
+LEVELS = {12: "* / %", 11: "+ -", 10: "<< >>", 9: "< <= > >=", 8: "== !=", 7: "&", 6: "^", 5: "|", 4: "&&", 3: "||"}
+PRECEDENCE = {operator: level for level, operators in LEVELS.items() for operator in operators.split()}
 PRIMARY, UNARY, CHOICE = 15, 14, 2
 OPPOSITE = {"==": "!=", "!=": "==", "<": ">=", "<=": ">", ">": "<=", ">=": "<"}
 COMPARISONS = set(OPPOSITE)
@@ -15,23 +21,25 @@ BITWISE = {"&", "|", "^"}
 
 # Types.
 
+
 class Width:
     """What a number of 64 bits counts: bytes of memory or not. Numbers that are compared, added or assigned have one width."""
 
-    def __init__(self, is_size=None):
-        self.same, self.decided = None, is_size
+    def __init__(self, is_size: bool | None = None) -> None:
+        self.same: Width | None = None
+        self.decided = is_size
 
-    def root(self):
+    def root(self) -> Width:
         at = self
         while at.same:
             at = at.same
         return at
 
     @property
-    def is_size(self):
+    def is_size(self) -> bool:
         return bool(self.root().decided)
 
-    def join(self, other):
+    def join(self, other: Width) -> bool:
         """Makes both the same. Returns whether they can be."""
         one, two = self.root(), other.root()
         if one is two:
@@ -46,9 +54,9 @@ class Width:
 @dataclasses.dataclass(eq=False)
 class Number:
     bits: int
-    width: typing.Any = None
+    width: Width | None = None
 
-    def text(self):
+    def text(self) -> str:
         return "size_t" if self.width and self.width.is_size else f"uint{self.bits}_t"
 
 
@@ -56,7 +64,7 @@ class Number:
 class Named:
     name: str
 
-    def text(self):
+    def text(self) -> str:
         return self.name
 
 
@@ -64,25 +72,45 @@ class Named:
 class Code(Named):
     """The enum of a number in a struct of the header. How wide an enum is depends on what a compiler is told, and so it is no type there."""
 
-    def text(self):
+    def text(self) -> str:
         return "uint8_t"
 
 
 @dataclasses.dataclass(eq=False)
 class Pointer:
-    to: typing.Any
+    to: Type
     is_const: bool = False
 
-    def text(self):
+    def text(self) -> str:
         return f"{'const ' if self.is_const else ''}{self.to.text()} *"
 
 
+Type: TypeAlias = Number | Named | Pointer
 BOOL, VOID = Named("bool"), Named("void")
 BYTE = Number(8)
 SIZE = Width(True)
 
 
-def declared(of, name):
+def pointed(of: Type) -> Type:
+    """The type of what a pointer leads to."""
+    if not isinstance(of, Pointer):
+        raise TypeError(of)
+    return of.to
+
+
+def width_of(of: Type) -> Width | None:
+    """What a number counts, if it has 64 bits."""
+    return of.width if isinstance(of, Number) else None
+
+
+def bits(of: Type) -> int:
+    """How many bits a number has."""
+    if not isinstance(of, Number):
+        raise TypeError(of)
+    return of.bits
+
+
+def declared(of: Type, name: str) -> str:
     """The declaration of a name of this type."""
     text = of.text()
     return text + name if text.endswith("*") else f"{text} {name}"
@@ -90,15 +118,22 @@ def declared(of, name):
 
 # Expressions. `of` is the type.
 
+
 @dataclasses.dataclass(eq=False)
 class Variable:
     """A parameter or a local of a function."""
-    of: typing.Any
-    name: typing.Any = None
+
+    of: Type
+    name: str | None = None
     is_parameter: bool = False
     local: int = -1
-    meaning: typing.Any = None  # the type of the MIR
-    hint: typing.Any = None  # a name, if the source has none
+    meaning: Meaning = None  # the type of the MIR
+    hint: str | None = None  # a name, if the source has none
+
+    def known_name(self) -> str:
+        if self.name is None:
+            raise TypeError("a variable without a name")
+        return self.name
 
 
 @dataclasses.dataclass(eq=False)
@@ -106,105 +141,122 @@ class Var:
     variable: Variable
 
     @property
-    def of(self):
+    def of(self) -> Type:
         return self.variable.of
 
 
 @dataclasses.dataclass(eq=False)
 class Literal:
     value: int
-    of: typing.Any
-    names: tuple = ()  # of bits or of a register that together are this number
+    of: Type
+    names: tuple[str, ...] = ()  # of bits or of a register that together are this number
 
 
 @dataclasses.dataclass(eq=False)
 class Word:
     """A constant that has a name: of an enum, `true`, `NULL`."""
+
     name: str
-    of: typing.Any
+    of: Type
 
 
 @dataclasses.dataclass(eq=False)
 class Field:
-    base: typing.Any
+    base: Expression
     name: str
-    of: typing.Any
+    of: Type
 
 
 @dataclasses.dataclass(eq=False)
 class Deref:
-    pointer: typing.Any
+    pointer: Expression
 
     @property
-    def of(self):
-        return self.pointer.of.to
+    def of(self) -> Type:
+        return pointed(self.pointer.of)
 
 
 @dataclasses.dataclass(eq=False)
 class Index:
-    pointer: typing.Any
-    index: typing.Any
+    pointer: Expression
+    index: Expression
 
     @property
-    def of(self):
-        return self.pointer.of.to
+    def of(self) -> Type:
+        return pointed(self.pointer.of)
 
 
 @dataclasses.dataclass(eq=False)
 class AddressOf:
-    place: typing.Any
-    of: typing.Any
+    place: Expression
+    of: Type
 
 
 @dataclasses.dataclass(eq=False)
 class Unary:
     operator: str
-    operand: typing.Any
-    of: typing.Any
+    operand: Expression
+    of: Type
 
 
 @dataclasses.dataclass(eq=False)
 class Binary:
     operator: str
-    left: typing.Any
-    right: typing.Any
-    of: typing.Any
+    left: Expression
+    right: Expression
+    of: Type
 
 
 @dataclasses.dataclass(eq=False)
 class Cast:
-    of: typing.Any
-    operand: typing.Any
+    of: Type
+    operand: Expression
 
 
 @dataclasses.dataclass(eq=False)
 class CallOf:
     """A call. If it is pure it has no effect and reads nothing but its arguments. `expects` are the types of the parameters, and `fields`
     says what is in each member of the struct that a maker makes: the number of an argument, or a constant."""
+
     name: str
-    arguments: list
-    of: typing.Any
+    arguments: list[Expression]
+    of: Type
     is_pure: bool = False
-    expects: tuple = ()
-    fields: typing.Any = None
+    expects: tuple[Type, ...] = ()
+    fields: dict[str, int | Expression] | None = None
+
+    def members(self) -> dict[str, Expression]:
+        """What a maker puts into each member."""
+        return {name: self.arguments[what] if isinstance(what, int) else what for name, what in (self.fields or {}).items()}
 
 
 @dataclasses.dataclass(eq=False)
 class Choice:
-    condition: typing.Any
-    yes: typing.Any
-    no: typing.Any
+    condition: Expression
+    yes: Expression
+    no: Expression
 
     @property
-    def of(self):
+    def of(self) -> Type:
         return self.yes.of
 
 
-CHILDREN = {Field: ("base",), Deref: ("pointer",), Index: ("pointer", "index"), AddressOf: ("place",), Unary: ("operand",),
-            Binary: ("left", "right"), Cast: ("operand",), CallOf: ("arguments",), Choice: ("condition", "yes", "no")}
+Expression: TypeAlias = Var | Literal | Word | Field | Deref | Index | AddressOf | Unary | Binary | Cast | CallOf | Choice
+Change: TypeAlias = Callable[[Expression], Expression]
+CHILDREN: dict[type[Expression], tuple[str, ...]] = {
+    Field: ("base",),
+    Deref: ("pointer",),
+    Index: ("pointer", "index"),
+    AddressOf: ("place",),
+    Unary: ("operand",),
+    Binary: ("left", "right"),
+    Cast: ("operand",),
+    CallOf: ("arguments",),
+    Choice: ("condition", "yes", "no"),
+}
 
 
-def parts(one):
+def parts(one: Expression) -> list[Expression]:
     """The expressions that an expression is made of."""
     out = []
     for name in CHILDREN.get(type(one), ()):
@@ -213,14 +265,14 @@ def parts(one):
     return out
 
 
-def every(one):
+def every(one: Expression) -> Iterator[Expression]:
     """An expression and all that it is made of."""
     yield one
     for part in parts(one):
         yield from every(part)
 
 
-def rebuilt(one, change):
+def rebuilt(one: Expression, change: Change) -> Expression:
     """An expression with each of its parts as `change` makes it, from the inside out."""
     names = CHILDREN.get(type(one), ())
     if names:
@@ -235,11 +287,13 @@ def rebuilt(one, change):
 
 # Statements.
 
+
 @dataclasses.dataclass(eq=False)
 class Set:
     """An assignment, or the initialisation of a variable that is declared here."""
-    to: typing.Any
-    value: typing.Any
+
+    to: Expression
+    value: Expression
     declares: bool = False
 
 
@@ -250,47 +304,48 @@ class Declare:
 
 @dataclasses.dataclass(eq=False)
 class Do:
-    call: typing.Any
+    call: Expression
 
 
 @dataclasses.dataclass(eq=False)
 class If:
-    condition: typing.Any
-    yes: list
-    no: list
+    condition: Expression
+    yes: list[Statement]
+    no: list[Statement]
 
 
 @dataclasses.dataclass(eq=False)
 class Switch:
-    on: typing.Any
-    cases: list  # of (expressions or None for all others, statements)
+    on: Expression
+    cases: list[Case]  # expressions or None for all others, and statements
 
 
 @dataclasses.dataclass(eq=False)
 class While:
-    condition: typing.Any
-    body: list
+    condition: Expression
+    body: list[Statement]
 
 
 @dataclasses.dataclass(eq=False)
 class For:
     first: Set
-    condition: typing.Any
+    condition: Expression
     step: Set
-    body: list
+    body: list[Statement]
 
 
 @dataclasses.dataclass(eq=False)
 class Block:
     """What an `Exit` of this label leaves. C has none: they go before the text is made."""
+
     label: int
-    body: list
+    body: list[Statement]
 
 
 @dataclasses.dataclass(eq=False)
 class Loop:
     label: int
-    body: list
+    body: list[Statement]
 
 
 @dataclasses.dataclass(eq=False)
@@ -300,7 +355,7 @@ class Exit:
 
 @dataclasses.dataclass(eq=False)
 class Return:
-    value: typing.Any = None
+    value: Expression | None = None
 
 
 @dataclasses.dataclass(eq=False)
@@ -313,16 +368,25 @@ class Continue:
     pass
 
 
-EXPRESSIONS = {Set: ("to", "value"), Do: ("call",), If: ("condition",), Switch: ("on",), While: ("condition",), For: ("condition",),
-               Return: ("value",)}
+Statement: TypeAlias = Set | Declare | Do | If | Switch | While | For | Block | Loop | Exit | Return | Break | Continue
+Case: TypeAlias = tuple[list[Expression] | None, list[Statement]]
+EXPRESSIONS: dict[type[Statement], tuple[str, ...]] = {
+    Set: ("to", "value"),
+    Do: ("call",),
+    If: ("condition",),
+    Switch: ("on",),
+    While: ("condition",),
+    For: ("condition",),
+    Return: ("value",),
+}
 
 
-def expressions(statement):
+def expressions(statement: Statement) -> list[Expression]:
     """The expressions of a statement itself, without those of statements in it."""
     return [one for one in (getattr(statement, name) for name in EXPRESSIONS.get(type(statement), ())) if one is not None]
 
 
-def lists(statement):
+def lists(statement: Statement) -> list[list[Statement]]:
     """The lists of statements in a statement."""
     if isinstance(statement, If):
         return [statement.yes, statement.no]
@@ -333,7 +397,7 @@ def lists(statement):
     return []
 
 
-def all_statements(statements):
+def all_statements(statements: Iterable[Statement]) -> Iterator[Statement]:
     for one in statements:
         yield one
         if isinstance(one, For):
@@ -343,7 +407,14 @@ def all_statements(statements):
             yield from all_statements(body)
 
 
-def leaves(statements):
+def all_parts(statements: Iterable[Statement]) -> Iterator[Expression]:
+    """All expressions of statements, with all that they are made of."""
+    for statement in all_statements(statements):
+        for one in expressions(statement):
+            yield from every(one)
+
+
+def leaves(statements: list[Statement]) -> bool:
     """Whether nothing goes on behind these statements."""
     if not statements:
         return False
@@ -358,12 +429,12 @@ def leaves(statements):
     return False
 
 
-def leaves_switch(body):
+def leaves_switch(body: list[Statement]) -> bool:
     """Whether a case ends without leaving its switch downwards: `break` would."""
     return leaves(body) and not isinstance(body[-1], Break)
 
 
-def negated(one):
+def negated(one: Expression) -> Expression:
     """The opposite of a condition."""
     if isinstance(one, Unary) and one.operator == "!":
         return one.operand
@@ -376,7 +447,8 @@ def negated(one):
 
 # Text.
 
-def number_text(one):
+
+def number_text(one: Literal) -> str:
     if one.names:
         return " | ".join(one.names)
     is_size = isinstance(one.of, Number) and one.of.width and one.of.width.is_size
@@ -392,7 +464,7 @@ def number_text(one):
     return str(one.value)
 
 
-def level(one):
+def level(one: Expression) -> int:
     """How tightly an expression binds."""
     if isinstance(one, Literal):
         return PRECEDENCE["|"] if len(one.names) > 1 else PRIMARY
@@ -403,11 +475,11 @@ def level(one):
     return CHOICE if isinstance(one, Choice) else PRIMARY
 
 
-def at_level(one, least):
+def at_level(one: Expression, least: int) -> str:
     return text(one) if level(one) >= least else f"({text(one)})"
 
 
-def side(one, operator, is_right):
+def side(one: Expression, operator: str, is_right: bool) -> str:
     """The text of an operand: in parentheses where C's precedence asks for them, or where few people know it."""
     mine, its = PRECEDENCE[operator], level(one)
     if its >= UNARY:
@@ -418,15 +490,15 @@ def side(one, operator, is_right):
     return text(one) if known and not is_unusual else f"({text(one)})"
 
 
-def branch(one):
+def branch(one: Expression) -> str:
     """The text of what a choice may be. g++ warns of one that is a name of an enum if the other is none."""
     return text(Cast(one.of, one)) if isinstance(one, Word) and isinstance(one.of, Code) else at_level(one, 3)
 
 
-def text(one):
+def text(one: Expression) -> str:
     """The text of an expression."""
     if isinstance(one, Var):
-        return one.variable.name
+        return one.variable.known_name()
     if isinstance(one, Literal):
         return number_text(one)
     if isinstance(one, Word):
@@ -454,26 +526,26 @@ def text(one):
     raise TypeError(one)
 
 
-def set_text(one):
+def set_text(one: Set) -> str:
     """An assignment without its semicolon."""
     to, value = text(one.to), one.value
     if one.declares:
         return f"{declared(one.to.of, to)} = {text(value)}"
     if isinstance(value, Binary) and value.operator not in COMPARISONS | LOGICAL and text(value.left) == to:
         if value.operator in "+-" and isinstance(value.right, Literal) and value.right.value == 1:
-            return f"{to}{value.operator * 2}"
+            return f"{at_level(one.to, PRIMARY)}{value.operator * 2}"
         return f"{to} {value.operator}= {text(value.right)}"
     return f"{to} = {text(value)}"
 
 
-def lines(statements, depth=1):
+def lines(statements: list[Statement], depth: int = 1) -> list[str]:
     """The lines of statements."""
     out, tab = [], INDENT * depth
     for one in statements:
         if isinstance(one, Set):
             out += wrapped(f"{tab}{set_text(one)};")
         elif isinstance(one, Declare):
-            out.append(f"{tab}{declared(one.variable.of, one.variable.name)};")
+            out.append(f"{tab}{declared(one.variable.of, one.variable.known_name())};")
         elif isinstance(one, Do):
             out += wrapped(f"{tab}{text(one.call)};")
         elif isinstance(one, Return):
@@ -494,7 +566,7 @@ def lines(statements, depth=1):
     return out
 
 
-def block(top, body, depth, braces=False):
+def block(top: str, body: list[Statement], depth: int, braces: bool = False) -> list[str]:
     """A line with the statements that it has, in braces if they are more than one line."""
     tab, inner = INDENT * depth, lines(body, depth + 1)
     first = wrapped(tab + top)
@@ -504,7 +576,7 @@ def block(top, body, depth, braces=False):
     return [*first, *inner, f"{tab}}}"]
 
 
-def if_lines(one, depth):
+def if_lines(one: If, depth: int) -> list[str]:
     tab = INDENT * depth
     has_braces = bool(one.no) and (len(one.yes) != 1 or len(one.no) != 1 or not is_short(one.yes) or not is_short(one.no))
     out = block(f"if ({text(one.condition)})", one.yes, depth, has_braces)
@@ -521,11 +593,11 @@ def if_lines(one, depth):
     return out + rest
 
 
-def is_short(body):
+def is_short(body: list[Statement]) -> bool:
     return len(lines(body)) == 1 and isinstance(body[0], (Set, Do, Return, Break, Continue))
 
 
-def switch_lines(one, depth):
+def switch_lines(one: Switch, depth: int) -> list[str]:
     tab = INDENT * depth
     out = [f"{tab}switch ({text(one.on)}) {{"]
     for order, (labels, body) in enumerate(one.cases):
@@ -543,7 +615,7 @@ def switch_lines(one, depth):
     return [*out, f"{tab}}}"]
 
 
-def wrapped(line, first=True):
+def wrapped(line: str, first: bool = True) -> list[str]:
     """A line in pieces that fit, each behind the first further to the right."""
     if len(line) <= WIDTH:
         return [line]
@@ -555,9 +627,10 @@ def wrapped(line, first=True):
     return [line[:at].rstrip(), *wrapped(" " * behind + line[at:].lstrip(), False)]
 
 
-def break_at(line, tab):
+def break_at(line: str, tab: int) -> int | None:
     """Where a line that is too long is cut: as far out of brackets as can be, and there as late as can be."""
     depth, best = 0, None
+    rank: float | None
     for at in range(tab + 8, WIDTH):
         depth += (line[at - 1] in "([{") - (line[at - 1] in ")]}")
         before = line[:at].rstrip()

@@ -1,6 +1,11 @@
 """What the table of the interface, calls.py, is made of. A row that says something twice, or leaves out what it needs, ends `emit`."""
+from __future__ import annotations
+
 import dataclasses
 import re
+from typing import Protocol, TypeVar
+
+Name = TypeVar("Name", str, int)
 
 # A number is told in the header as its text tells it.
 SAME = "the same as the text"
@@ -13,13 +18,14 @@ class Wrong(Exception):
 @dataclasses.dataclass(frozen=True)
 class Number:
     """What a function returns: its name, its text for a log, what the header says of it, and the errors of the proved code that it tells."""
+
     name: str
     value: int
     text: str
     note: str = ""
-    of: tuple = ()
+    of: tuple[str, ...] = ()
 
-    def told(self):
+    def told(self) -> str:
         return self.text if self.note == SAME else self.note
 
 
@@ -27,7 +33,7 @@ class Number:
 class Numbers:
     enum: str
     about: str
-    members: list
+    members: list[Number]
 
 
 @dataclasses.dataclass(frozen=True)
@@ -41,7 +47,7 @@ class Member:
 class Enum:
     name: str
     about: str
-    members: list
+    members: list[Member]
 
 
 @dataclasses.dataclass(frozen=True)
@@ -54,17 +60,16 @@ class Field:
 class Struct:
     name: str
     about: str
-    members: list
-    # What the library of Rust and this one lay out in the same way: sizeof in bytes, or in C.
-    size: str = ""
+    members: list[Field]
 
 
 @dataclasses.dataclass(frozen=True)
 class Codes:
     """The numbers that stand for the variants of an enum of the proved code. All others are refused by U16550_BAD_CODE."""
+
     of: str
     kind: str
-    numbers: dict
+    numbers: dict[str, str | int]
     # Whether C gives them, gets them, or both.
     given: bool = True
     got: bool = True
@@ -73,6 +78,7 @@ class Codes:
 @dataclasses.dataclass(frozen=True)
 class Value:
     """What a parameter of a function may be: the local that it is read into, the test, and what the proved function gets."""
+
     parameter: str
     test: str
     passed: str
@@ -84,6 +90,7 @@ class Value:
 class Call:
     """A function of the header that makes one call of the proved code: over a driver, or over a configuration alone if it takes that first.
     `gives` is the parameter that what it returns is written to."""
+
     name: str
     takes: str
     gives: str = ""
@@ -103,51 +110,58 @@ class Call:
     arguments: str = ""
     does: str = ""
 
-    def parameters(self):
+    def parameters(self) -> list[str]:
         return [one.strip() for one in self.takes.split(",")]
 
 
 @dataclasses.dataclass(frozen=True)
 class ByHand:
     """A function of the header that is in the layer as it is."""
+
     name: str
     takes: str
     returns: str = "int"
 
-    def parameters(self):
+    def parameters(self) -> list[str]:
         return [one.strip() for one in self.takes.split(",")]
 
 
 @dataclasses.dataclass(frozen=True)
 class Group:
     about: str
-    calls: list
+    calls: list[Call | ByHand]
 
 
 @dataclasses.dataclass(frozen=True)
 class Section:
     title: str
     about: str
-    groups: list
+    groups: list[Group]
     # Lines of the header in front of the first function.
     lines: str = ""
 
 
-def twice(names):
+class Table(Protocol):
+    """What has the rows."""
+
+    NUMBERS: list[Numbers]
+    SECTIONS: list[Section]
+
+
+def twice(names: list[Name]) -> list[Name]:
     """The names that are there more than once."""
     return sorted({one for one in names if names.count(one) > 1})
 
 
-def check(table):
+def check(table: Table) -> None:
     """Refuses a table in which two rows have one name or one number, or a call gives what it does not take."""
     numbers = [one for group in table.NUMBERS for one in group.members]
     calls = [one for section in table.SECTIONS for group in section.groups for one in group.calls]
-    wrong = twice([one.name for one in numbers]) + twice([one.value for one in numbers]) + twice([one.text for one in numbers])
+    wrong = twice([one.name for one in numbers]) + [*map(str, twice([one.value for one in numbers]))] + twice([one.text for one in numbers])
     wrong += twice([one.name for one in calls]) + twice([path for one in numbers for path in one.of])
     if wrong:
-        raise Wrong(f"calls.py has these twice: {', '.join(map(str, wrong))}")
+        raise Wrong(f"calls.py has these twice: {', '.join(wrong)}")
     for call in calls:
         for name in (call.gives, call.stalls) if isinstance(call, Call) else ():
             if name and not any(re.search(rf"\*{name}$", one) for one in call.parameters()):
                 raise Wrong(f"calls.py: {call.name} takes no pointer {name}")
-    return numbers, calls

@@ -1,9 +1,15 @@
 """The bodies of the MIR as trees over concrete types: what is small and of a library is put in place of its call, branches that are never
 reached are left out, and each local is split into variables of one purpose."""
-import dataclasses
-import typing
+from __future__ import annotations
 
-from translate import Translation, Unknown, head
+import dataclasses
+from collections.abc import Callable, Iterator, Sequence
+from typing import TypeAlias
+
+from translate import Dictionaries, Node, Program, Translation, Type, Types, Unknown, head
+
+# A function over concrete types: its name, the types, and the dictionaries.
+Key: TypeAlias = tuple[str, Types, Dictionaries]
 
 # A function of a library that has no loop is put in place of its call up to so many statements.
 SMALL = 14
@@ -27,11 +33,17 @@ IN_PLACE = (NEXT, "std::slices::slice+T::copy_within", "std_alloc::shifts::shift
 
 # Operands and values.
 
+
+# ("Field", number), ("Variant", number) or ("Deref", type).
+Step: TypeAlias = tuple[str, Type]
+
+
 @dataclasses.dataclass(frozen=True)
 class Place:
-    """A local, or what steps lead to from there: ("Field", number), ("Variant", number) or ("Deref", type)."""
+    """A local, or what steps lead to from there."""
+
     local: int
-    steps: tuple = ()
+    steps: tuple[Step, ...] = ()
 
 
 @dataclasses.dataclass(frozen=True)
@@ -52,7 +64,7 @@ class Nothing:
 
 @dataclasses.dataclass(frozen=True)
 class SizeOf:
-    of: typing.Any
+    of: Type
 
 
 @dataclasses.dataclass(frozen=True)
@@ -62,70 +74,77 @@ class Address:
 
 @dataclasses.dataclass(frozen=True)
 class Repeat:
-    item: typing.Any
+    item: Operand
     count: int
 
 
 @dataclasses.dataclass(frozen=True)
 class Aggregate:
-    parts: tuple
+    parts: tuple[Operand | Repeat, ...]
 
 
 @dataclasses.dataclass(frozen=True)
 class One:
     operation: str
-    how: typing.Any
-    operand: typing.Any
+    how: Node
+    operand: Operand
 
 
 @dataclasses.dataclass(frozen=True)
 class Two:
     operation: str
-    sign: typing.Any
-    first: typing.Any
-    second: typing.Any
+    sign: Node
+    first: Operand
+    second: Operand
 
 
 @dataclasses.dataclass(frozen=True)
 class Static:
-    of: typing.Any
-    node: typing.Any = dataclasses.field(hash=False)
+    of: Type
+    node: Node = dataclasses.field(hash=False)
+
+
+Operand: TypeAlias = Place | Int | Truth | Nothing | SizeOf
+Value: TypeAlias = Operand | Address | Repeat | Aggregate | One | Two | Static
+ChangePlace: TypeAlias = Callable[[Place], Place]
 
 
 # Statements. Each is itself alone, so that two that look the same stay two.
 
+
 @dataclasses.dataclass(eq=False)
 class Assign:
     place: Place
-    value: typing.Any
+    value: Value
 
 
 @dataclasses.dataclass(eq=False)
 class Call:
     place: Place
-    function: tuple
-    arguments: list
+    function: Key
+    arguments: list[Operand]
 
 
 @dataclasses.dataclass(eq=False)
 class Switch:
-    on: typing.Any
-    cases: list  # of (numbers or None for all others, statements)
+    on: Operand
+    cases: list[Case]  # numbers or None for all others, and statements
 
 
 @dataclasses.dataclass(eq=False)
 class Block:
-    body: list
+    body: list[Statement]
 
 
 @dataclasses.dataclass(eq=False)
 class Loop:
-    body: list
+    body: list[Statement]
 
 
 @dataclasses.dataclass(eq=False)
 class Exit:
     """Leaves so many blocks and loops around it, and one more."""
+
     depth: int
 
 
@@ -139,7 +158,11 @@ class Never:
     """What is proved never to be reached."""
 
 
-def bodies(statement):
+Statement: TypeAlias = Assign | Call | Switch | Block | Loop | Exit | Return | Never
+Case: TypeAlias = tuple[list[int] | None, list[Statement]]
+
+
+def bodies(statement: Statement) -> list[list[Statement]]:
     """The lists of statements in a statement."""
     if isinstance(statement, (Block, Loop)):
         return [statement.body]
@@ -148,14 +171,14 @@ def bodies(statement):
     return []
 
 
-def walk(statements):
+def walk(statements: list[Statement]) -> Iterator[Statement]:
     for one in statements:
         yield one
         for body in bodies(one):
             yield from walk(body)
 
 
-def places_of(value):
+def places_of(value: Value) -> list[Place]:
     """The places that a value or an operand reads."""
     if isinstance(value, Place):
         return [value]
@@ -172,36 +195,54 @@ def places_of(value):
     return []
 
 
-def with_places(value, change):
-    """The same value or operand, each place that it reads as `change` says."""
+def places_read(statement: Statement) -> list[Place]:
+    """The places that a statement itself reads, not those of the statements in it."""
+    if isinstance(statement, Assign):
+        return places_of(statement.value)
+    values = statement.arguments if isinstance(statement, Call) else [statement.on] if isinstance(statement, Switch) else []
+    return [place for value in values for place in places_of(value)]
+
+
+def with_place(one: Operand, change: ChangePlace) -> Operand:
+    """The same operand, its place as `change` says."""
+    return change(one) if isinstance(one, Place) else one
+
+
+def with_places(value: Value, change: ChangePlace) -> Value:
+    """The same value, each place that it reads as `change` says."""
     if isinstance(value, Place):
         return change(value)
     if isinstance(value, Address):
         return Address(change(value.place))
     if isinstance(value, Repeat):
-        return Repeat(with_places(value.item, change), value.count)
+        return repeated(value, change)
     if isinstance(value, Aggregate):
-        return Aggregate(tuple(with_places(one, change) for one in value.parts))
+        return Aggregate(tuple(repeated(one, change) if isinstance(one, Repeat) else with_place(one, change) for one in value.parts))
     if isinstance(value, One):
-        return One(value.operation, value.how, with_places(value.operand, change))
+        return One(value.operation, value.how, with_place(value.operand, change))
     if isinstance(value, Two):
-        return Two(value.operation, value.sign, with_places(value.first, change), with_places(value.second, change))
+        return Two(value.operation, value.sign, with_place(value.first, change), with_place(value.second, change))
     return value
 
 
-def renamed(statements, number):
+def repeated(value: Repeat, change: ChangePlace) -> Repeat:
+    return Repeat(with_place(value.item, change), value.count)
+
+
+def renamed(statements: list[Statement], number: Callable[[int], int]) -> list[Statement]:
     """A copy of statements with other numbers of locals."""
-    def place(one):
+
+    def place(one: Place) -> Place:
         return Place(number(one.local), one.steps)
 
-    out = []
+    out = list[Statement]()
     for one in statements:
         if isinstance(one, Assign):
             out.append(Assign(place(one.place), with_places(one.value, place)))
         elif isinstance(one, Call):
-            out.append(Call(place(one.place), one.function, [with_places(argument, place) for argument in one.arguments]))
+            out.append(Call(place(one.place), one.function, [with_place(argument, place) for argument in one.arguments]))
         elif isinstance(one, Switch):
-            out.append(Switch(with_places(one.on, place), [(numbers, renamed(body, number)) for numbers, body in one.cases]))
+            out.append(Switch(with_place(one.on, place), [(numbers, renamed(body, number)) for numbers, body in one.cases]))
         elif isinstance(one, (Block, Loop)):
             out.append(type(one)(renamed(one.body, number)))
         elif isinstance(one, Exit):
@@ -214,7 +255,7 @@ def renamed(statements, number):
 class Tree:
     """A function over concrete types."""
 
-    def __init__(self, forest, key):
+    def __init__(self, forest: Forest, key: Key) -> None:
         self.forest, self.key = forest, key
         name, self.types, self.dictionaries = key
         function = forest.program.functions[name]
@@ -223,7 +264,7 @@ class Tree:
         self.own = len(function["locals"])
         self.locals = [forest.type(one["ty"], self.types) for one in function["locals"]]
         # Which local of the function a variable was made from, for its name.
-        self.origin = list(range(self.own))
+        self.origin: list[int | None] = [*range(self.own)]
         self.body = self.statement()
         if self.at != len(self.nodes):
             raise Unknown("a body with more than one tree")
@@ -233,7 +274,7 @@ class Tree:
             forward_items(self)
         forward_repetitions(self)
 
-    def statement(self):
+    def statement(self) -> list[Statement]:
         """The next statement of the body, as a list of statements."""
         kind, value = head(self.nodes[self.at])
         self.at += 1
@@ -244,7 +285,7 @@ class Tree:
         if kind == "Skip":
             return []
         if kind in ("Block", "Loop"):
-            return [{"Block": Block, "Loop": Loop}[kind](self.statement())]
+            return [Block(self.statement()) if kind == "Block" else Loop(self.statement())]
         if kind == "Return":
             return [Return()]
         if kind == "Exit":
@@ -252,10 +293,9 @@ class Tree:
         if kind == "Unreachable":
             return [Never()]
         if kind == "If":
-            cases = [([1], self.statement()), ([0], self.statement())]
-            return self.choice(self.operand(value), cases)
+            return self.choice(self.operand(value), [([1], self.statement()), ([0], self.statement())])
         if kind == "Switch":
-            cases = [(numbers, self.statement()) for numbers in value[1]]
+            cases: list[Case] = [(numbers, self.statement()) for numbers in value[1]]
             if value[2]:
                 cases.append((None, self.statement()))
             return self.choice(self.operand(value[0]), cases)
@@ -267,7 +307,7 @@ class Tree:
             return self.call(*value)
         raise Unknown(f"a statement {kind}")
 
-    def lent(self, place, of, node):
+    def lent(self, place: Place, of: Type, node: Node) -> list[Statement]:
         """The address of a constant: of a struct of numbers, as that of a variable."""
         shape, parts = head(node)
         if of[0] != "Named" or shape != "Parts" or any(head(one)[0] != "Int" for one in parts):
@@ -278,18 +318,20 @@ class Tree:
         return [Assign(made, Aggregate(tuple(map(self.operand, parts)))), Assign(place, Address(made))]
 
     @staticmethod
-    def choice(on, cases):
+    def choice(on: Operand, cases: list[Case]) -> list[Statement]:
         """A choice without what is never reached: that it is not is proved."""
         reached = [(numbers, body) for numbers, body in cases if not (body and isinstance(body[-1], Never))]
         if len(reached) == 1 and len(cases) > 1:
             return reached[0][1]
         return [Switch(on, reached)]
 
-    def place(self, node):
-        return Place(node["local"], tuple((kind, self.forest.type(value, self.types) if kind == "Deref" else value)
-                                          for kind, value in map(head, node["steps"])))
+    def place(self, node: Node) -> Place:
+        return Place(
+            node["local"],
+            tuple((kind, self.forest.type(value, self.types) if kind == "Deref" else value) for kind, value in map(head, node["steps"])),
+        )
 
-    def operand(self, node):
+    def operand(self, node: Node) -> Operand:
         kind, value = head(node)
         if kind in ("Copy", "Move"):
             return self.place(value)
@@ -305,7 +347,7 @@ class Tree:
             return SizeOf(self.forest.type(value, self.types))
         raise Unknown(f"an operand {kind}")
 
-    def value(self, node):
+    def value(self, node: Node) -> Value:
         kind, value = head(node)
         if kind == "Opd":
             return self.operand(value)
@@ -321,7 +363,7 @@ class Tree:
             return Two(*head(value[0]), self.operand(value[1]), self.operand(value[2]))
         raise Unknown(f"a value {kind}")
 
-    def call(self, called, arguments, result):
+    def call(self, called: Node, arguments: Node, result: Node) -> list[Statement]:
         key = self.forest.called(called, self.types, self.dictionaries)
         if key is None:
             return []
@@ -335,58 +377,57 @@ class Tree:
             return [Call(place, key, arguments)]
         return self.in_place(callee, arguments, place)
 
-    def in_place(self, callee, arguments, place):
+    def in_place(self, callee: Tree, arguments: list[Operand], place: Place) -> list[Statement]:
         """The body of a function in place of its call."""
         given, body, result = self.taken_over(callee, arguments)
         return [*given, *without_returns(body), Assign(place, Place(result))]
 
-    def taken_over(self, callee, arguments):
+    def taken_over(self, callee: Tree, arguments: list[Operand]) -> tuple[list[Statement], list[Statement], int]:
         """The assignments of the arguments, the body of a function with locals of this one, and the local of its result."""
         shift = len(self.locals)
         self.locals += callee.locals
         self.origin += [None] * len(callee.locals)
-        given = [Assign(Place(shift + order), one) for order, one in enumerate(arguments, 1)]
+        given: list[Statement] = [Assign(Place(shift + order), one) for order, one in enumerate(arguments, 1)]
         return given, renamed(callee.body, lambda number: number + shift), shift
 
-    def with_loops(self, statements):
+    def with_loops(self, statements: list[Statement]) -> list[Statement]:
         """The same, with what goes over a slice in place of its call where that is the last that is done."""
-        out = []
+        out = list[Statement]()
         for order, one in enumerate(statements):
             for body in bodies(one):
                 body[:] = self.with_loops(body)
             is_last = order + 1 < len(statements) and isinstance(statements[order + 1], Return)
             if isinstance(one, Call) and one.function[0] in OVER_ITEMS and one.place == Place(0) and is_last:
                 given, body, result = self.taken_over(self.forest.tree(one.function), one.arguments)
-                return [*out, *given, *renamed(body, lambda number, its=result: 0 if number == its else number)]
+                return [*out, *given, *renamed(body, lambda number: 0 if number == result else number)]
             out.append(one)
         return out
 
 
-def forward_repetitions(tree):
+def forward_repetitions(tree: Tree) -> None:
     """Puts an array of one item many times into the one struct that it is made for."""
-    made, used = {}, {}
+    made, used = dict[int, list[Assign | Call]](), dict[int, list[tuple[Statement, Place]]]()
     for one in walk(tree.body):
         if isinstance(one, (Assign, Call)) and not one.place.steps:
             made.setdefault(one.place.local, []).append(one)
-        values = [one.value] if isinstance(one, Assign) else one.arguments if isinstance(one, Call) else [one.on] if isinstance(one, Switch) else []
-        for value in values:
-            for place in places_of(value):
-                used.setdefault(place.local, []).append((one, place))
+        for place in places_read(one):
+            used.setdefault(place.local, []).append((one, place))
         if isinstance(one, (Assign, Call)) and one.place.steps:
             used.setdefault(one.place.local, []).append((one, one.place))
     for local, statements in made.items():
         first, uses = statements[0], used.get(local, [])
-        is_repeated = isinstance(first, Assign) and isinstance(first.value, Repeat) and len(statements) == len(uses) == 1
-        if not is_repeated or not isinstance(uses[0][0], Assign) or not isinstance(uses[0][0].value, Aggregate) or uses[0][1].steps:
+        if not (isinstance(first, Assign) and isinstance(first.value, Repeat) and len(statements) == len(uses) == 1):
             continue
-        if any(len(made.get(place.local, [])) != 1 for place in places_of(first.value)):
+        [(into, place)], repeat = uses, first.value
+        if not isinstance(into, Assign) or not isinstance(into.value, Aggregate) or place.steps:
             continue
-        into = uses[0][0]
-        into.value = Aggregate(tuple(first.value if one == Place(local) else one for one in into.value.parts))
+        if any(len(made.get(place.local, [])) != 1 for place in places_of(repeat)):
+            continue
+        into.value = Aggregate(tuple(repeat if one == Place(local) else one for one in into.value.parts))
         remove(tree.body, first)
 
 
-def remove(statements, which):
+def remove(statements: list[Statement], which: Statement) -> None:
     statements[:] = [one for one in statements if one is not which]
     for one in statements:
         for body in bodies(one):
@@ -398,30 +439,30 @@ FREES = "std_alloc::vec::Vec::drop"
 NEVER_RETURN = {"core::assertions::unreachable"}
 
 
-def returns(body):
+def returns(body: list[Statement]) -> bool:
     return bool(body) and isinstance(body[-1], Return)
 
 
-def without_returns(statements):
+def without_returns(statements: list[Statement]) -> list[Statement]:
     """A body without its returns: what is behind a branch that returns goes into the other one."""
-    out = []
+    out = list[Statement]()
     for order, one in enumerate(statements):
         if isinstance(one, Return):
             return out
         if any(isinstance(inner, Return) for inner in walk([one])):
             if not isinstance(one, Switch) or sum(not returns(body) for _, body in one.cases) > 1:
                 raise Unknown("a return in the middle of a function of a library")
-            rest = statements[order + 1:]
+            rest = statements[order + 1 :]
             return [*out, Switch(one.on, [(numbers, without_returns(body if returns(body) else [*body, *rest])) for numbers, body in one.cases])]
         out.append(one)
     return out
 
 
-def is_items(of):
+def is_items(of: Type) -> bool:
     return isinstance(of, tuple) and of[:2] == ("Named", ITEMS)
 
 
-def with_known_variants(statements):
+def with_known_variants(statements: list[Statement]) -> list[Statement]:
     """The same, where a choice between variants comes behind another one that has made them: the branches of the second go into those of the
     first."""
     out, rest = [], list(statements)
@@ -437,40 +478,46 @@ def with_known_variants(statements):
     return out
 
 
-def joined_choices(first, rest):
+def joined_choices(first: Switch, rest: list[Statement]) -> tuple[Switch, int] | None:
     """The choice that the first and one behind it are, and how many statements of the rest are in it; or None."""
-    made = [body[-1] if body else None for _, body in first.cases]
-    if not all(isinstance(one, Assign) and isinstance(one.value, Aggregate) and one.value.parts and isinstance(one.value.parts[0], Int)
-            for one in made):
+    made = [found for _, body in first.cases if (found := made_variant(body))]
+    names, tags, count = {place for place, _ in made}, [tag for _, tag in made], 0
+    if len(made) < len(first.cases) or len(names) != 1 or any(place.steps for place in names):
         return None
-    names, count = {made[0].place}, 0
-    if any(one.place != made[0].place or one.place.steps for one in made):
-        return None
-    while count < len(rest) and isinstance(rest[count], Assign) and rest[count].value in names and not rest[count].place.steps:
-        names.add(rest[count].place)
+    for one in rest:
+        if not isinstance(one, Assign) or one.value not in names or one.place.steps:
+            break
+        names.add(one.place)
         count += 1
     second = rest[count] if count < len(rest) else None
     if not isinstance(second, Switch) or not isinstance(second.on, Place) or Place(second.on.local) not in names:
         return None
     if [word for word, _ in second.on.steps] != ["Variant", "Field"] or second.on.steps[1][1] != 0:
         return None
-    tags = [one.value.parts[0].value for one in made]
-    bodies_of = {tag: next((body for numbers, body in second.cases if numbers is None or tag in numbers), None) for tag in tags}
-    if len(set(tags)) < len(tags) or None in bodies_of.values() or len({id(body) for body in bodies_of.values()}) < len(tags):
+    behind = [next((body for numbers, body in second.cases if numbers is None or tag in numbers), None) for tag in tags]
+    chosen = [body for body in behind if body is not None]
+    if len(set(tags)) < len(tags) or len({id(body) for body in chosen}) < len(tags):
         return None
-    copies = [renamed(rest[:count], lambda number: number) for _ in tags]
-    cases = [(numbers, [*body, *copy, *bodies_of[tag]]) for (numbers, body), copy, tag in zip(first.cases, copies, tags)]
+    cases = [(numbers, [*body, *renamed(rest[:count], lambda number: number), *its]) for (numbers, body), its in zip(first.cases, chosen)]
     return Switch(first.on, cases), count + 1
 
 
-def forward_items(tree):
+def made_variant(body: list[Statement]) -> tuple[Place, int] | None:
+    """Where a body ends with making a variant of an enum, and the number of the variant."""
+    last = body[-1] if body else None
+    if isinstance(last, Assign) and isinstance(last.value, Aggregate) and last.value.parts and isinstance(last.value.parts[0], Int):
+        return last.place, last.value.parts[0].value
+    return None
+
+
+def forward_items(tree: Tree) -> None:
     """Names what goes over a slice itself where it is reached by its address, which is one place for ever."""
-    made = {}
+    made = dict[int, list[Value | None]]()
     for one in walk(tree.body):
         if isinstance(one, (Assign, Call)) and not one.place.steps:
             made.setdefault(one.place.local, []).append(one.value if isinstance(one, Assign) else None)
 
-    def target(local):
+    def target(local: int) -> int | None:
         """The local whose address this one has."""
         values = made.get(local, [])
         if len(values) != 1 or 0 < local <= tree.params:
@@ -486,11 +533,11 @@ def forward_items(tree):
 
     targets = {local: target(local) for local in made}
 
-    def direct(place):
+    def direct(place: Place) -> Place:
         to = targets.get(place.local)
         return Place(to, place.steps[1:]) if to is not None and place.steps and place.steps[0][0] == "Deref" else place
 
-    def go(statements):
+    def go(statements: list[Statement]) -> list[Statement]:
         out = []
         for one in statements:
             if isinstance(one, Assign) and not one.place.steps and targets.get(one.place.local) is not None:
@@ -500,9 +547,9 @@ def forward_items(tree):
             if isinstance(one, Assign):
                 one.value = with_places(one.value, direct)
             elif isinstance(one, Call):
-                one.arguments = [with_places(argument, direct) for argument in one.arguments]
+                one.arguments = [with_place(argument, direct) for argument in one.arguments]
             elif isinstance(one, Switch):
-                one.on = with_places(one.on, direct)
+                one.on = with_place(one.on, direct)
             for body in bodies(one):
                 body[:] = go(body)
             out.append(one)
@@ -515,20 +562,20 @@ class Forest(Translation):
     """All trees that are asked for. `natives` are the functions that C has in another way, and `own` the crates whose functions stay
     functions in C."""
 
-    def __init__(self, program, natives, own):
+    def __init__(self, program: Program, natives: Callable[[str], bool], own: Sequence[str]) -> None:
         super().__init__(program, {}, own)
-        self.trees, self.is_native = {}, natives
+        self.trees, self.is_native = dict[Key, Tree](), natives
         for _, name, _ in (DEVICE, PATIENCE, PORTS):
             program.types[name] = {"name": name, "shape": {"Fields": []}}
 
-    def type(self, node, types):
+    def type(self, node: Node, types: Types) -> Type:
         """As in the translation to Rust, but a reference says whether it may change what it is to."""
         kind, value = head(node)
         if kind == "Ref":
             return ("Ref", self.type(value[2], types), value[1] == "Mut")
         return super().type(node, types)
 
-    def called(self, called, types, dictionaries):
+    def called(self, called: Node, types: Types, dictionaries: Dictionaries) -> Key | None:
         """The function of a call: its name, its types and its dictionaries. None if it does nothing."""
         kind, what = head(called)
         given = what[1] if kind == "Fn" else what[2]
@@ -549,12 +596,12 @@ class Forest(Translation):
             raise Unknown(f"the method {what[1]} of {dictionary[0]}")
         return (name, dictionary[1] + types_given, dictionary[2] + dictionaries_given)
 
-    def tree(self, key):
+    def tree(self, key: Key) -> Tree:
         if key not in self.trees:
             self.trees[key] = Tree(self, key)
         return self.trees[key]
 
-    def callee(self, key):
+    def callee(self, key: Key) -> Tree | None:
         """The tree of a function whose body takes the place of its call, else None."""
         if self.is_native(key[0]) or key[0] not in self.program.functions:
             return None
@@ -577,27 +624,32 @@ class Forest(Translation):
 
 # Each group of definitions that reach a common use becomes a variable of its own.
 
+
+# The definitions that reach a place, by the local.
+Reaching: TypeAlias = dict[int, frozenset[int]]
+
+
 class Webs:
-    def __init__(self, tree):
+    def __init__(self, tree: Tree) -> None:
         self.tree = tree
-        self.parents, self.local_of = [], []
-        self.made, self.used = {}, {}
+        self.parents, self.local_of = list[int](), list[int]()
+        self.made, self.used = dict[tuple[str | int, int], int](), dict[tuple[int, int], int]()
         self.start = {order: self.definition("start", order) for order in range(tree.params + 1)}
 
-    def definition(self, statement, local):
-        key = (statement if isinstance(statement, str) else id(statement), local)
+    def definition(self, statement: Statement | str, local: int) -> int:
+        key: tuple[str | int, int] = (statement if isinstance(statement, str) else id(statement), local)
         if key not in self.made:
             self.made[key] = len(self.parents)
             self.parents.append(len(self.parents))
             self.local_of.append(local)
         return self.made[key]
 
-    def root(self, number):
+    def root(self, number: int) -> int:
         while self.parents[number] != number:
             number = self.parents[number]
         return number
 
-    def use(self, statement, local, reaching):
+    def use(self, statement: Statement, local: int, reaching: Reaching) -> None:
         """Notes a use of a local, and joins the definitions that reach it."""
         found = reaching.get(local) or frozenset([self.definition("none", local)])
         first, *others = sorted(found)
@@ -606,29 +658,28 @@ class Webs:
         self.used[id(statement), local] = first
 
     @staticmethod
-    def joined(one, other):
+    def joined(one: Reaching | None, other: Reaching | None) -> Reaching | None:
         """What reaches a place that two ways lead to; None is a way that nobody goes."""
         if one is None or other is None:
             return other if one is None else one
         return {local: one.get(local, frozenset()) | other.get(local, frozenset()) for local in one.keys() | other.keys()}
 
-    def flow(self, statements, reaching, exits):
+    def flow(self, statements: list[Statement], reaching: Reaching | None, exits: list[list[Reaching | None]]) -> Reaching | None:
         for one in statements:
             if reaching is None:
                 return None
             reaching = self.flow_of_one(one, reaching, exits)
         return reaching
 
-    def flow_of_one(self, one, reaching, exits):
+    def flow_of_one(self, one: Statement, reaching: Reaching, exits: list[list[Reaching | None]]) -> Reaching | None:
         if isinstance(one, (Assign, Call)):
-            read = places_of(one.value) if isinstance(one, Assign) else [p for argument in one.arguments for p in places_of(argument)]
-            for place in [*read, *([one.place] if one.place.steps else [])]:
+            for place in [*places_read(one), *([one.place] if one.place.steps else [])]:
                 self.use(one, place.local, reaching)
             if one.place.steps:
                 return reaching
             return {**reaching, one.place.local: frozenset([self.definition(one, one.place.local)])}
         if isinstance(one, Switch):
-            for place in places_of(one.on):
+            for place in places_read(one):
                 self.use(one, place.local, reaching)
             ends = [self.flow(body, reaching, exits) for _, body in one.cases]
             out = None
@@ -636,13 +687,13 @@ class Webs:
                 out = self.joined(out, end)
             return out
         if isinstance(one, Block):
-            left = [None]
+            left = list[Reaching | None]([None])
             return self.joined(self.flow(one.body, reaching, [left, *exits]), left[0])
         if isinstance(one, Loop):
             while True:
-                left = [None]
+                left = list[Reaching | None]([None])
                 around = self.joined(reaching, self.flow(one.body, reaching, [left, *exits]))
-                if around == reaching:
+                if around is None or around == reaching:
                     return left[0]
                 reaching = around
         if isinstance(one, Exit):
@@ -651,14 +702,14 @@ class Webs:
             self.use(one, 0, reaching)
         return None
 
-    def run(self):
+    def run(self) -> None:
         """Gives each web a local of its own: a parameter keeps its number."""
         tree = self.tree
         self.flow(tree.body, {local: frozenset([one]) for local, one in self.start.items()}, [])
         numbers = {self.root(one): local for local, one in self.start.items()}
         taken = set(self.start)
 
-        def number(one):
+        def number(one: int) -> int:
             root = self.root(one)
             if root not in numbers:
                 local = self.local_of[root]
@@ -672,16 +723,17 @@ class Webs:
             return numbers[root]
 
         for one in walk(tree.body):
-            def read(place, one=one):
+
+            def read(place: Place, one: Statement = one) -> Place:
                 used = self.used.get((id(one), place.local))
                 return place if used is None else Place(number(used), place.steps)
 
             if isinstance(one, Assign):
                 one.value = with_places(one.value, read)
             elif isinstance(one, Call):
-                one.arguments = [with_places(argument, read) for argument in one.arguments]
+                one.arguments = [with_place(argument, read) for argument in one.arguments]
             elif isinstance(one, Switch):
-                one.on = with_places(one.on, read)
+                one.on = with_place(one.on, read)
             if isinstance(one, (Assign, Call)):
                 if one.place.steps:
                     one.place = read(one.place)

@@ -196,7 +196,7 @@ AROUND = [
         "`uart_driver`, the name of a package",
     ),
     ("another compiler", "rust-toolchain.toml", "", '[toolchain]\nchannel = "nightly"\n', "another compiler than the machine has"),
-    ("flags of the compiler", "rust/uart_16550_c/.cargo/config.toml", "", "[build]\nrustflags = []\n", "more than that cargo asks"),
+    ("flags of the compiler", "rust/uart_16550/.cargo/config.toml", "", "[build]\nrustflags = []\n", "more than that cargo asks"),
     (
         "a condition on a method of the kit",
         "rust/kit/src/bits.rs",

@@ -1,5 +1,5 @@
 /*
- * A kernel for a PC whose console is the library for C on COM1: a banner, an echo by polling, an echo by interrupts with rings.
+ * A kernel for a PC whose console is the driver in C on COM1: a banner, an echo by polling, an echo by interrupts with rings.
  * Then it ends the machine. It is the kernel of kernel.rs, in C.
  */
 #include <stddef.h>
@@ -9,7 +9,7 @@
 
 /* How the machine ends, as the emulator's port for it gets it. The emulator's status is twice this and one. */
 enum end {
-    DONE = 0x10, NO_CONSOLE = 0x20, NO_RINGS = 0x21, NOT_SENT = 0x22, NO_INTERRUPTS = 0x23, STUCK = 0x24, NOBODY_TYPES = 0x26, PANIC = 0x3f
+    DONE = 0x10, NO_CONSOLE = 0x20, NO_RINGS = 0x21, NOT_SENT = 0x22, NO_INTERRUPTS = 0x23, STUCK = 0x24, NOBODY_TYPES = 0x26
 };
 
 enum {
@@ -51,11 +51,6 @@ _Noreturn static void end(enum end how)
     write_port(EXIT_PORT, (uint8_t)how);
     for (;;)
         __asm__ volatile("cli; hlt");
-}
-
-void u16550_panic(void)
-{
-    end(PANIC);
 }
 
 extern void interrupt_entry(void), fault_entry(void);

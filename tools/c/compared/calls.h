@@ -1,7 +1,7 @@
 /*
  * All calls at random over a device that is partly at random, and a hash of all that they do: each access, each result, each byte of each
- * buffer, and what the driver keeps afterwards. The same program runs over the library that is made of Rust and over the one of C, and prints
- * the same. What is at random depends on the seed alone. It needs no library of C, so that it also runs where there is none.
+ * buffer, and what the driver keeps afterwards. The same program runs over each build, and prints the same. What is at random depends on the
+ * seed alone. It needs no library of C, so that it also runs where there is none.
  */
 #include "u16550.h"
 
@@ -550,7 +550,7 @@ static size_t fill_text(void)
 }
 
 /* A caller who keeps waiting so many times, and counts them down. */
-static uint8_t U16550_CALL keep_waiting(void *context)
+static uint8_t keep_waiting(void *context)
 {
     uint32_t *left = (uint32_t *)context;
     if (*left == 0)

@@ -15,16 +15,6 @@ void print(const char *text, size_t len)
     fwrite(text, 1, len, stdout);
 }
 
-#if defined(__cplusplus)
-extern "C"
-#endif
-void u16550_panic(void);
-void u16550_panic(void)
-{
-    fputs("panic\n", stdout);
-    exit(EXIT_FAILURE);
-}
-
 #if defined(LISTED)
 /*
  * Which functions each call comes to: a compiler that is told to calls these two at the beginning and at the end of each function. The first

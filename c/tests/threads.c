@@ -25,12 +25,6 @@ enum {
     TURNS = 10000000       /* in which a test has to come to its end, also if a thread waits long for a processor */
 };
 
-void u16550_panic(void)
-{
-    puts("panic");
-    abort();
-}
-
 /* The text of message n. */
 static void write_message(unsigned n, uint8_t *bytes)
 {

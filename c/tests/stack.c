@@ -15,19 +15,13 @@
 
 enum { SIZE = 1 << 16, COLOUR = 0xa5, DLAB = 0x80, FIFO_ENABLE = 1 };
 
-void u16550_panic(void)
-{
-    puts("panic");
-    abort();
-}
-
 /* ---- a chip whose transmitter is joined to its receiver: what is sent comes back. It calls nothing, and so uses no stack */
 
 static struct {
     uint8_t registers[8], dll, dlm, fifo[256], in, out, fifos, isr;
 } chip;
 
-static uint8_t U16550_CALL read_register(void *context, uintptr_t address)
+static uint8_t read_register(void *context, uintptr_t address)
 {
     (void)context;
     switch (address & 7) {
@@ -46,7 +40,7 @@ static uint8_t U16550_CALL read_register(void *context, uintptr_t address)
     }
 }
 
-static void U16550_CALL write_register(void *context, uintptr_t address, uint8_t value)
+static void write_register(void *context, uintptr_t address, uint8_t value)
 {
     (void)context;
     if ((address & 7) == 0 && chip.registers[3] & DLAB)
@@ -135,7 +129,7 @@ static int __attribute__((noinline)) nothing(void)
     return 0;
 }
 
-static uint8_t U16550_CALL keep_waiting(void *context)
+static uint8_t keep_waiting(void *context)
 {
     return context == NULL;
 }
@@ -289,6 +283,11 @@ static void call_u16550_text(void)
     keep(u16550_text(U16550_NULL_POINTER) != NULL);
 }
 
+static void call_u16550_check_layout(void)
+{
+    keep(U16550_LOOK());
+}
+
 static void call_u16550_version(void)
 {
     keep(u16550_version() != NULL);
@@ -322,5 +321,6 @@ int main(void)
     OVER_BUS(BUS)
     measure("u16550_text", call_u16550_text, A_DRIVER);
     measure("u16550_version", call_u16550_version, A_DRIVER);
+    measure("u16550_check_layout", call_u16550_check_layout, A_DRIVER);
     return 0;
 }

@@ -27,12 +27,6 @@ static void compare(const char *file, int line, const char *what, long long got,
 #define OK(expression) IS(expression, U16550_OK)
 #define BYTES(at, wanted) IS(memcmp(at, wanted, sizeof(wanted) - 1), 0)
 
-void u16550_panic(void)
-{
-    puts("panic");
-    abort();
-}
-
 static struct device d;
 static struct u16550 uart;
 static struct u16550_config config;
@@ -1272,7 +1266,7 @@ struct deadline {
     int inside;
 };
 
-static uint8_t U16550_CALL is_before(void *context)
+static uint8_t is_before(void *context)
 {
     struct deadline *deadline = (struct deadline *)context;
     deadline->inside = u16550_flush(&uart);

@@ -27,12 +27,6 @@ static void compare(const char *file, int line, const char *what, long long got,
 #define IS(expression, wanted) compare(__FILE__, __LINE__, #expression, (long long)(expression), (long long)(wanted))
 #define OK(expression) IS(expression, U16550_OK)
 
-void u16550_panic(void)
-{
-    puts("panic");
-    abort();
-}
-
 static struct device d;
 static struct u16550 uart;
 static struct u16550_config config;

@@ -1,5 +1,5 @@
 /*
- * Calls in any order over a device that answers anything, and in the middle of each some others: none panics, each returns a
+ * Calls in any order over a device that answers anything, and in the middle of each some others: each returns a
  * number that has a text, and one in the middle of another over the same driver returns U16550_BUSY. Prints how many were made.
  */
 #include <stdint.h>
@@ -11,12 +11,6 @@
 #include "each.h"
 
 enum { CALLS = 40000, NESTED_IN = 16, ROOM = 64 };
-
-void u16550_panic(void)
-{
-    puts("panic");
-    abort();
-}
 
 static uint64_t seed = 1;
 
@@ -152,7 +146,7 @@ static int at_bus(struct u16550 *u, struct room *r, size_t len)
 }
 
 /* A caller who keeps waiting so many times. */
-static uint8_t U16550_CALL keep_waiting(void *context)
+static uint8_t keep_waiting(void *context)
 {
     uint32_t *left = (uint32_t *)context;
     return *left > 0 && (*left)--;

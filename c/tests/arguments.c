@@ -1,7 +1,7 @@
 /*
- * A program for 32-bit x86 that passes arguments in registers, as Linux's kernel and SeaBIOS do: it is built with -mregparm=3, and the library
- * is not. It has neither an operating system's library nor a compiler's: memcpy and the like are its own, with arguments in registers too.
- * Ends with status 0 if every call got what it was given, and with the line of the first one that did not.
+ * A program for 32-bit x86 that passes arguments in registers, as Linux's kernel and SeaBIOS do: it and u16550.c are built with -mregparm=3.
+ * It has neither an operating system's library nor a compiler's. Ends with status 0 if every call got what it was given, and with the line of
+ * the first one that did not.
  */
 #include "u16550.h"
 
@@ -12,57 +12,25 @@ static void end(int status)
         ;
 }
 
-void u16550_panic(void)
-{
-    end(255);
-    for (;;)
-        ;
-}
+/* What a compiler calls: this program's, with arguments in registers too. */
+void *memcpy(void *to, const void *from, size_t count);
+void *memset(void *to, int value, size_t count);
 
-/*
- * What a compiler calls: this program's with arguments in registers, and the library's without. So the library was told other names, by
- * objcopy --redefine-sym memcpy=u16550_memcpy and so on.
- */
-static void *copy(void *to, const void *from, size_t count)
+void *memcpy(void *to, const void *from, size_t count)
 {
-    char *at = to;
+    volatile char *at = to;
     const char *next = from;
     while (count--)
         *at++ = *next++;
     return to;
 }
 
-static void *set(void *to, int value, size_t count)
+void *memset(void *to, int value, size_t count)
 {
-    char *at = to;
+    volatile char *at = to;
     while (count--)
         *at++ = (char)value;
     return to;
-}
-
-void *memcpy(void *to, const void *from, size_t count);
-void *memset(void *to, int value, size_t count);
-void *U16550_CALL u16550_memcpy(void *to, const void *from, size_t count);
-void *U16550_CALL u16550_memset(void *to, int value, size_t count);
-
-void *memcpy(void *to, const void *from, size_t count)
-{
-    return copy(to, from, count);
-}
-
-void *memset(void *to, int value, size_t count)
-{
-    return set(to, value, count);
-}
-
-void *U16550_CALL u16550_memcpy(void *to, const void *from, size_t count)
-{
-    return copy(to, from, count);
-}
-
-void *U16550_CALL u16550_memset(void *to, int value, size_t count)
-{
-    return set(to, value, count);
 }
 
 #define IS(expression, wanted) ((expression) == (wanted) ? (void)0 : end(__LINE__ & 127))
@@ -77,7 +45,7 @@ struct chip {
 
 enum { BASE = 0x2f8, DLAB = 0x80 };
 
-static uint8_t U16550_CALL read_register(void *context, uintptr_t address)
+static uint8_t read_register(void *context, uintptr_t address)
 {
     struct chip *chip = context;
     switch (address - BASE) {
@@ -93,7 +61,7 @@ static uint8_t U16550_CALL read_register(void *context, uintptr_t address)
     }
 }
 
-static void U16550_CALL write_register(void *context, uintptr_t address, uint8_t value)
+static void write_register(void *context, uintptr_t address, uint8_t value)
 {
     struct chip *chip = context;
     if (address - BASE == 0 && !(chip->registers[3] & DLAB)) {

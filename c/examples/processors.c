@@ -19,7 +19,7 @@ enum { PORT_BASE = 0x10000000, PORT_STRIDE = 1 };
  */
 enum { MOST_SERVED = 32, MOST_RUNS = 100, PATIENCE = 1000000 };
 
-/* Set up with rings, as the console of console.c, and with these interrupts. */
+/* Set up with rings, as the console of interrupts.c, and with these interrupts. */
 static struct u16550 port;
 enum { PORT_INTERRUPTS = U16550_IER_DATA_READY | U16550_IER_RECEIVER_LINE_STATUS | U16550_IER_MODEM_STATUS };
 

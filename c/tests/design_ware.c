@@ -24,12 +24,6 @@ static void compare(const char *file, int line, const char *what, long long got,
 #define IS(expression, wanted) compare(__FILE__, __LINE__, #expression, (long long)(expression), (long long)(wanted))
 #define OK(expression) IS(expression, U16550_OK)
 
-void u16550_panic(void)
-{
-    puts("panic");
-    abort();
-}
-
 /* ---- the chip */
 
 enum { USR = 31, BUSY_DETECT = 0x07, TIMEOUT = 0x0c, FOR_EVER = 1000000, PATIENCE = 100 };

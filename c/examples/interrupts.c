@@ -18,13 +18,13 @@ void unmask_line(void);
 void interrupts_off(void);
 void interrupts_on(void);
 
-static uint8_t U16550_CALL load(void *context, uintptr_t address)
+static uint8_t load(void *context, uintptr_t address)
 {
     (void)context;
     return *(volatile uint8_t *)address;
 }
 
-static void U16550_CALL store(void *context, uintptr_t address, uint8_t value)
+static void store(void *context, uintptr_t address, uint8_t value)
 {
     (void)context;
     *(volatile uint8_t *)address = value;
@@ -34,13 +34,6 @@ static struct u16550 console;
 static uint8_t rings[2 * RING];
 static volatile uint8_t is_put_off;
 static volatile int why_broken;
-
-/* A panic is a defect of the library: there is nothing to go on with. */
-void u16550_panic(void)
-{
-    for (;;)
-        ;
-}
 
 /* Sets the console up. Returns U16550_OK, or why there is none; u16550_text has a text for it. */
 int console_start(void)

@@ -36,12 +36,6 @@ static int are_off, is_locked, is_alone;
 static unsigned woken;
 static jmp_buf halted, panicked;
 
-void u16550_panic(void)
-{
-    puts("panic");
-    abort();
-}
-
 unsigned long interrupts_save(void)
 {
     unsigned long were = (unsigned long)are_off;
