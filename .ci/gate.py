@@ -85,7 +85,7 @@ def machine() -> str:
     rt = shutil.which("rt")
     told: list[object] = [os.geteuid() == 0, rt and os.path.realpath(rt)]
     # What passes with nothing taken passes with it too.
-    told += sorted(one for one in os.environ.items() if re.match(r"GEESETRUNK_(?!ANEW$)|CARGO|RUST|CC$|CFLAGS$", one[0]))
+    told += sorted(one for one in os.environ.items() if re.match(r"GEESETRUNK_(?!ANEW$)|ORIGINAL$|CARGO|RUST|CC$|CFLAGS$", one[0]))
     for words in asked:
         ended = subprocess.run(words, cwd=TOP, capture_output=True, check=False) if shutil.which(words[0]) else None
         told.append(ended and (ended.returncode, ended.stdout))

@@ -102,6 +102,7 @@ COMMANDS = [
     beside("rust/tests/interface", without=OF_RUST, but=[*READMES, "CHANGELOG.md"]),
     beside("integration/rust apart"),
     beside("integration/original", without=OF_RUST, needs="the folder of the original crate, in ORIGINAL"),
+    beside("bench/measure-size --check", without=OF_RUST, but=["bench/*"], needs="Debian's rustc-web"),
     beside("integration/doc", without=OF_RUST, but=READMES),
     over(".ci/refused-memory", but=[".ci/refused-memory"]),
     over("integration/port", without=OF_RUST, needs="an emulator of a PC"),

@@ -71,7 +71,7 @@ NAMED = [
     ('the second of two is not told that an interrupt is put off', BOTH, 'self.1.$event($($argument)?);', NOT_TIMEOUTS % 'self.1.$event($($argument)?);', 'machines'),
     ('what is shared is not told that an interrupt is put off', EVENTS, 'self.as_ref().$event($($argument)?);', NOT_TIMEOUTS % 'self.as_ref().$event($($argument)?);', 'machines'),
     ('what is put off is not counted', COUNTERS, 'timeouts: timeout_to_come() if true;', 'timeouts: timeout_to_come() if false;', 'machines'),
-    ('a clock that stops forgets what it put off', SERIAL, '            Ok(())\n        } else {\n            self.timeout_passed()\n        }\n', '            Ok(())\n        } else {\n            Ok(())\n        }\n', 'machines'),
+    ('a clock that stops forgets what it put off', SERIAL, 'if has_clock {\n            Ok(())\n        } else {\n            self.timeout_passed()\n        }\n', 'if has_clock {\n            Ok(())\n        } else {\n            Ok(())\n        }\n', 'machines'),
     ('a device begins with the divisor 0', SERIAL, '        (DATA, DIVISOR_OF_9600),\n', '', 'machines'),
     ('more input is read than there is room for', INPUT, 'self.read(&mut bytes[..room])?', 'self.read(&mut bytes)?', 'machines'),
     ('string I/O is written byte by byte', BUS, 'Place::Ports if size == NonZeroUsize::MIN => self.write_register(Some(offset), data),\n', '', 'machines'),

@@ -1,5 +1,5 @@
-//! Programs for firmware, of which `measure-size.sh` counts the bytes. A feature says which one is built, over this repository's crate or,
-//! with the feature `original`, over one with the original's signatures.
+//! Programs for firmware, of which `measure-size` counts the bytes. A feature says which one is built, over this repository's crate or,
+//! with the feature `original`, over one with the original's signatures. With `clock` the chip's clock is an argument of the program.
 #![no_std]
 
 use core::num::NonZeroUsize;
@@ -32,18 +32,27 @@ fn driver() -> Option<Uart16550<Registers>> {
     Some(Uart16550::new_with_backend(registers))
 }
 
+// Returns the configuration, for a clock that is known when the program is built, or for one that it is told.
+fn configuration(clock: u32) -> Config {
+    let mut config = Config::default();
+    if cfg!(feature = "clock") {
+        config.frequency = clock;
+    }
+    config
+}
+
 // Returns the driver, initialised.
-fn start() -> Option<Uart16550<Registers>> {
+fn start(clock: u32) -> Option<Uart16550<Registers>> {
     let mut uart = driver()?;
-    uart.init(Config::default()).ok()?;
+    uart.init(configuration(clock)).ok()?;
     Some(uart)
 }
 
 /// Initialises the chip, and sends a text.
 #[cfg(feature = "init")]
 #[unsafe(no_mangle)]
-extern "C" fn program() -> bool {
-    let Some(mut uart) = start() else {
+extern "C" fn program(clock: u32) -> bool {
+    let Some(mut uart) = start(clock) else {
         return false;
     };
     _ = uart.send_bytes_exact(b"hello\r\n");
@@ -53,8 +62,8 @@ extern "C" fn program() -> bool {
 /// Sends back what comes, in pieces of so many bytes.
 #[cfg(feature = "echo")]
 #[unsafe(no_mangle)]
-extern "C" fn program(length: usize) -> bool {
-    let Some(mut uart) = start() else {
+extern "C" fn program(clock: u32, length: usize) -> bool {
+    let Some(mut uart) = start(clock) else {
         return false;
     };
     let mut room = [0; 256];
@@ -67,11 +76,25 @@ extern "C" fn program(length: usize) -> bool {
     }
 }
 
+/// Sends back what comes, byte by byte, without a wait of the driver.
+#[cfg(feature = "try")]
+#[unsafe(no_mangle)]
+extern "C" fn program(clock: u32) -> bool {
+    let Some(mut uart) = start(clock) else {
+        return false;
+    };
+    loop {
+        if let Ok(byte) = uart.try_receive_byte() {
+            while uart.try_send_byte(byte).is_err() {}
+        }
+    }
+}
+
 /// Sends back what comes, as soon as it comes.
 #[cfg(feature = "poll")]
 #[unsafe(no_mangle)]
-extern "C" fn program() -> bool {
-    let Some(mut uart) = start() else {
+extern "C" fn program(clock: u32) -> bool {
+    let Some(mut uart) = start(clock) else {
         return false;
     };
     let mut piece = [0; 16];
@@ -84,8 +107,8 @@ extern "C" fn program() -> bool {
 /// Formats a number onto a terminal.
 #[cfg(feature = "text")]
 #[unsafe(no_mangle)]
-extern "C" fn program(answer: u32) -> bool {
-    let Some(uart) = start() else {
+extern "C" fn program(clock: u32, answer: u32) -> bool {
+    let Some(uart) = start(clock) else {
         return false;
     };
     told(uart, answer)
@@ -94,8 +117,8 @@ extern "C" fn program(answer: u32) -> bool {
 /// Does the same behind a loopback test.
 #[cfg(feature = "terminal")]
 #[unsafe(no_mangle)]
-extern "C" fn program(answer: u32) -> bool {
-    let Some(mut uart) = start() else {
+extern "C" fn program(clock: u32, answer: u32) -> bool {
+    let Some(mut uart) = start(clock) else {
         return false;
     };
     uart.test_loopback().is_ok() && told(uart, answer)

@@ -6,6 +6,7 @@ use choose::{boot_loader, firmware, kernel, monitor};
 use std::fmt::Write as _;
 use std::num::NonZeroUsize;
 use uart_16550::embedded_io::Write as _;
+use uart_16550::shared::Shared;
 use uart_16550::spec::registers::{LSR, offsets};
 use uart_16550::{Config, Uart16550};
 use uart_16550_chip::registers::LSR as ChipLsr;
@@ -38,6 +39,42 @@ fn a_kernel_prints() {
     console.inner_mut().flush().unwrap();
     let sent = console.inner().backend().0.wire();
     assert!(sent.ends_with(b"2 processors\r\n"));
+}
+
+#[test]
+fn a_kernel_is_served_by_interrupts() {
+    let port: kernel::Port<Bench> = Shared::new(kernel::Masked {
+        mask: || false,
+        restore: |were_masked| assert!(!were_masked),
+    });
+    let console = kernel::console(bench()).unwrap();
+    kernel::serve(&port, console, Box::leak(Box::new([0; 1280]))).unwrap();
+    assert_eq!(port.with(|ring| ring.queue(&[b'x'; 48])), Ok(48));
+    let (mut interrupts, mut slots) = (0, [0; 8]);
+    port.with(|ring| {
+        ring.inner_mut()
+            .backend_mut()
+            .0
+            .arrive(b'y', ChipLsr::empty())
+            .unwrap()
+    })
+    .unwrap();
+    for _tick in 0..10_000 {
+        let is_high = port.with(|ring| {
+            let chip = &mut ring.inner_mut().backend_mut().0;
+            chip.ticks(1);
+            chip.is_interrupting()
+        });
+        if is_high.unwrap() {
+            kernel::handle(&port);
+            interrupts += 1;
+        }
+    }
+    assert!(interrupts > 0);
+    assert_eq!(port.with(|ring| ring.take(&mut slots)), Ok(1));
+    assert_eq!(slots[0], b'y');
+    let uart = port.stop().unwrap().into_inner();
+    assert!(uart.backend().0.wire().ends_with(&[b'x'; 48]));
 }
 
 #[test]
