@@ -41,13 +41,6 @@ then_later P Q R s l t = record {
   second = record { front = t.first.back; back = t.back; whole = refl; first = t.first.second; second = t.second };
 }
 
--- a list for each item, by what the items are made to
-pub in_order_map : {A B : Type 0} (P : B → Language) (f : A → B) (items : List A) (s : Settings) (l : List Access) →
-    InOrder (λ item. P (f item)) items s l → InOrder P (map f items) s l
-in_order_map P f [] s l t = t
-in_order_map P f (i ∷ items) s l t =
-    record { front = t.front; back = t.back; whole = t.whole; first = t.first; second = in_order_map P f items s t.back t.second }
-
 -- one list more
 pub times_more : (n : ℕ) (P : Language) (s : Settings) (l m : List Access) → Times n P s l → P s m → Times (n + 1) P s (l ++ m)
 times_more zero P s l m p q =

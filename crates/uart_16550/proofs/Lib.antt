@@ -1,6 +1,5 @@
 pub mod Paths
 pub mod Languages
-pub mod Singly
 pub mod Gathering
 pub mod Making
 pub mod Waiting

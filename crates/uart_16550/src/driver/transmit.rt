@@ -163,17 +163,15 @@ impl<B: Backend> Uart16550<B> {
         Ok(())
     }
 
-    // Waits until bytes may be written. The first check is separate, since it mostly succeeds: then
-    // the limit is never read. Waiting and writing are two functions, and this one is inlined, so
-    // that each loop that sends holds one copy of the wait.
+    // Waits until bytes may be written. The check stands once: where code is to be small, the
+    // compiler then inlines it, and drops what a constant configuration does not ask for. Waiting
+    // and writing are two functions, and this one is inlined, so that each loop that sends holds one
+    // copy of the wait.
     #[inline(always)]
     fn wait_to_send(&mut self) -> bool
         ensures { Made B.step (WaitsToSend result) self.old self.new }
     {
-        if let Ok(()) = self.ready_to_send() {
-            return true;
-        }
-        for _turn in 1..self.spin_limit.get() {
+        for _check in 0..self.spin_limit.get() {
             if let Ok(()) = self.ready_to_send() {
                 return true;
             }
@@ -204,21 +202,6 @@ impl<B: Backend> Uart16550<B> {
                 return Err(StalledError { done });
             }
             self.write_byte(byte);
-        }
-        Ok(())
-    }
-
-    // Sends the bytes burst by burst, and waits for room before each burst.
-    fn send_bursts(&mut self, bytes: &[u8]) -> Result<(), StalledError>
-        ensures made { Made B.step (SendsExact bytes.now result) self.old self.new }
-        ensures done { IfErr result (λ e. e.done < length bytes.now) }
-    {
-        let mut done = 0;
-        while done < bytes.len() {
-            let Some(count) = self.send_some(&bytes[done..]) else {
-                return Err(StalledError { done });
-            };
-            done += count;
         }
         Ok(())
     }
@@ -265,13 +248,16 @@ impl<B: Backend> Uart16550<B> {
         ensures made { Made B.step (SendsExact bytes.now result) self.old self.new }
         ensures done { IfErr result (λ e. e.done < length bytes.now) }
     {
-        // Without FIFO each burst is one byte. The loop over bursts would serve too, but asks each
-        // time how many bytes a burst has room for.
-        if self.fifo_enabled {
-            self.send_bursts(bytes)
-        } else {
-            self.send_singly(bytes)
+        // Without FIFO each burst is one byte. A loop of its own for those would ask for less, and
+        // would be the same code again.
+        let mut done = 0;
+        while done < bytes.len() {
+            let Some(count) = self.send_some(&bytes[done..]) else {
+                return Err(StalledError { done });
+            };
+            done += count;
         }
+        Ok(())
     }
 
     // Polls LSR until it shows these bits, or until the limit. Each wait has a loop of its own over

@@ -181,15 +181,13 @@ impl<B: Backend> Uart16550<B> {
         Ok(())
     }
 
-    // Waits until bytes may be written. The first check is separate, since it mostly succeeds: then
-    // the limit is never read. Waiting and writing are two functions, and this one is inlined, so
-    // that each loop that sends holds one copy of the wait.
+    // Waits until bytes may be written. The check stands once: where code is to be small, the
+    // compiler then inlines it, and drops what a constant configuration does not ask for. Waiting
+    // and writing are two functions, and this one is inlined, so that each loop that sends holds one
+    // copy of the wait.
     #[inline(always)]
     fn wait_to_send(&mut self) -> bool {
-        if let Ok(()) = self.ready_to_send() {
-            return true;
-        }
-        for _turn in 1..self.spin_limit.get() {
+        for _check in 0..self.spin_limit.get() {
             if let Ok(()) = self.ready_to_send() {
                 return true;
             }
@@ -213,18 +211,6 @@ impl<B: Backend> Uart16550<B> {
                 return Err(StalledError { done });
             }
             self.write_byte(byte);
-        }
-        Ok(())
-    }
-
-    // Sends the bytes burst by burst, and waits for room before each burst.
-    fn send_bursts(&mut self, bytes: &[u8]) -> Result<(), StalledError> {
-        let mut done = 0;
-        while done < bytes.len() {
-            let Some(count) = self.send_some(&bytes[done..]) else {
-                return Err(StalledError { done });
-            };
-            done += count;
         }
         Ok(())
     }
@@ -271,13 +257,16 @@ impl<B: Backend> Uart16550<B> {
     ///
     /// </details>
     pub fn send_bytes_exact(&mut self, bytes: &[u8]) -> Result<(), StalledError> {
-        // Without FIFO each burst is one byte. The loop over bursts would serve too, but asks each
-        // time how many bytes a burst has room for.
-        if self.fifo_enabled {
-            self.send_bursts(bytes)
-        } else {
-            self.send_singly(bytes)
+        // Without FIFO each burst is one byte. A loop of its own for those would ask for less, and
+        // would be the same code again.
+        let mut done = 0;
+        while done < bytes.len() {
+            let Some(count) = self.send_some(&bytes[done..]) else {
+                return Err(StalledError { done });
+            };
+            done += count;
         }
+        Ok(())
     }
 
     // Polls LSR until it shows these bits, or until the limit. Each wait has a loop of its own over

@@ -2,7 +2,7 @@ use Rattle.std.proofs.Common.{◌-◌, ◌≤◌, List, ℕ, length, drop}
 use Rattle.uart_16550.specs.Grammar.{InOrder}
 use Rattle.uart_16550.specs.Transmit.{IsCut, Round}
 use Rattle.uart_16550.specs.Driver.{Made, settings}
-use Rattle.uart_16550.proofs.driver.Uart16550.send_bursts.Given as goal
+use Rattle.uart_16550.proofs.driver.Uart16550.send_bytes_exact.Given as goal
 
 abbrev pub invariant-loop-done : goal.invariant-loop-done
 invariant-loop-done g l = record {
