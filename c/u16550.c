@@ -3539,19 +3539,18 @@ uart_send_bytes(struct u16550_core_driver *uart, const uint8_t *buffer, size_t b
 }
 
 /*
- * Waits until bytes may be written. The first check is separate, since it mostly succeeds: then
- * the limit is never read. Waiting and writing are two functions, and this one is inlined, so
- * that each loop that sends holds one copy of the wait.
+ * Waits until bytes may be written. The check stands once: where code is to be small, the
+ * compiler then inlines it, and drops what a constant configuration does not ask for. Waiting
+ * and writing are two functions, and this one is inlined, so that each loop that sends holds one
+ * copy of the wait.
  *
  * Proved: a wait for room: a check succeeded after fewer misses in a row than the limit, or
  * there were as many misses.
  */
 static inline bool uart_wait_to_send(struct u16550_core_driver *uart)
 {
-    if (uart_ready_to_send(uart) == UART_BYTE_SEND_ERROR_NONE)
-        return true;
     uint64_t number = uart->spin_limit;
-    for (uint64_t turn = 1; turn < number; turn++) {
+    for (uint64_t check = 0; check < number; check++) {
         if (uart_ready_to_send(uart) == UART_BYTE_SEND_ERROR_NONE)
             return true;
     }
@@ -3573,42 +3572,6 @@ uart_send_some(struct u16550_core_driver *uart, const uint8_t *bytes, size_t byt
 }
 
 /*
- * Sends the bytes burst by burst, and waits for room before each burst.
- *
- * Proved: all bytes, burst by burst, each burst after its own wait; or those before the
- * burst whose wait reaches the limit, as many as the error reports.
- */
-static struct uart_maybe_stalled_error
-uart_send_bursts(struct u16550_core_driver *uart, const uint8_t *bytes, size_t bytes_len)
-{
-    size_t done = 0;
-    while (done < bytes_len) {
-        struct uart_maybe_u64 found = uart_send_some(uart, &bytes[done], bytes_len - done);
-        if (!found.is_some)
-            return uart_failed_stalled_error(done);
-        done += (size_t)found.value;
-    }
-    return uart_no_stalled_error();
-}
-
-/*
- * Sends the bytes one by one, and waits for room before each.
- *
- * Proved: these bytes, one by one: all of them, or a beginning.
- */
-static struct uart_maybe_stalled_error
-uart_send_singly(struct u16550_core_driver *uart, const uint8_t *bytes, size_t bytes_len)
-{
-    for (size_t done = 0; done < bytes_len; done++) {
-        uint8_t byte = bytes[done];
-        if (!uart_wait_to_send(uart))
-            return uart_failed_stalled_error(done);
-        uart_write_byte(uart, byte);
-    }
-    return uart_no_stalled_error();
-}
-
-/*
  * Sends all of the bytes, and waits for room before each burst: of up to as many bytes as the
  * FIFO holds (fifo_size) if it is on, else of one.
  *
@@ -3625,12 +3588,17 @@ uart_send_singly(struct u16550_core_driver *uart, const uint8_t *bytes, size_t b
  * Proved: all bytes, burst by burst, each burst after its own wait; or those before the
  * burst whose wait reaches the limit, as many as the error reports.
  */
-static inline struct uart_maybe_stalled_error
+static struct uart_maybe_stalled_error
 uart_send_bytes_exact(struct u16550_core_driver *uart, const uint8_t *bytes, size_t bytes_len)
 {
-    if (uart->fifo_enabled)
-        return uart_send_bursts(uart, bytes, bytes_len);
-    return uart_send_singly(uart, bytes, bytes_len);
+    size_t done = 0;
+    while (done < bytes_len) {
+        struct uart_maybe_u64 found = uart_send_some(uart, &bytes[done], bytes_len - done);
+        if (!found.is_some)
+            return uart_failed_stalled_error(done);
+        done += (size_t)found.value;
+    }
+    return uart_no_stalled_error();
 }
 
 /*
@@ -4255,6 +4223,23 @@ uart_write(struct u16550_core_driver *uart, const uint8_t *buf, size_t buf_len)
 static inline struct uart_bool_or_stalled_error uart_write_ready(struct u16550_core_driver *uart)
 {
     return uart_good_bool_or_stalled_error(uart_ready_to_send(uart) == UART_BYTE_SEND_ERROR_NONE);
+}
+
+/*
+ * Sends the bytes one by one, and waits for room before each.
+ *
+ * Proved: these bytes, one by one: all of them, or a beginning.
+ */
+static struct uart_maybe_stalled_error
+uart_send_singly(struct u16550_core_driver *uart, const uint8_t *bytes, size_t bytes_len)
+{
+    for (size_t done = 0; done < bytes_len; done++) {
+        uint8_t byte = bytes[done];
+        if (!uart_wait_to_send(uart))
+            return uart_failed_stalled_error(done);
+        uart_write_byte(uart, byte);
+    }
+    return uart_no_stalled_error();
 }
 
 /* Returns what is sent for a byte of a text. */

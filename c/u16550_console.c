@@ -912,18 +912,17 @@ static enum uart_loopback_error uart_exchange_byte(struct u16550_console *uart)
 }
 
 /*
- * Waits until bytes may be written. The first check is separate, since it mostly succeeds: then
- * the limit is never read. Waiting and writing are two functions, and this one is inlined, so
- * that each loop that sends holds one copy of the wait.
+ * Waits until bytes may be written. The check stands once: where code is to be small, the
+ * compiler then inlines it, and drops what a constant configuration does not ask for. Waiting
+ * and writing are two functions, and this one is inlined, so that each loop that sends holds one
+ * copy of the wait.
  *
  * Proved: a wait for room: a check succeeded after fewer misses in a row than the limit, or
  * there were as many misses.
  */
 static inline bool uart_wait_to_send(struct u16550_console *uart)
 {
-    if (uart_ready_to_send(uart) == UART_BYTE_SEND_ERROR_NONE)
-        return true;
-    for (uint32_t turn = 1; turn < U16550_CONSOLE_POLLS; turn++) {
+    for (uint32_t check = 0; check < U16550_CONSOLE_POLLS; check++) {
         if (uart_ready_to_send(uart) == UART_BYTE_SEND_ERROR_NONE)
             return true;
     }
@@ -945,42 +944,6 @@ uart_send_some(struct u16550_console *uart, const uint8_t *bytes, size_t bytes_l
 }
 
 /*
- * Sends the bytes burst by burst, and waits for room before each burst.
- *
- * Proved: all bytes, burst by burst, each burst after its own wait; or those before the
- * burst whose wait reaches the limit, as many as the error reports.
- */
-static struct uart_maybe_stalled_error
-uart_send_bursts(struct u16550_console *uart, const uint8_t *bytes, size_t bytes_len)
-{
-    size_t done = 0;
-    while (done < bytes_len) {
-        struct uart_maybe_u64 found = uart_send_some(uart, &bytes[done], bytes_len - done);
-        if (!found.is_some)
-            return uart_failed_stalled_error(done);
-        done += (size_t)found.value;
-    }
-    return uart_no_stalled_error();
-}
-
-/*
- * Sends the bytes one by one, and waits for room before each.
- *
- * Proved: these bytes, one by one: all of them, or a beginning.
- */
-static struct uart_maybe_stalled_error
-uart_send_singly(struct u16550_console *uart, const uint8_t *bytes, size_t bytes_len)
-{
-    for (size_t done = 0; done < bytes_len; done++) {
-        uint8_t byte = bytes[done];
-        if (!uart_wait_to_send(uart))
-            return uart_failed_stalled_error(done);
-        uart_device_write(UART_DATA, byte);
-    }
-    return uart_no_stalled_error();
-}
-
-/*
  * Sends all of the bytes, and waits for room before each burst: of up to as many bytes as the
  * FIFO holds (fifo_size) if it is on, else of one.
  *
@@ -997,12 +960,17 @@ uart_send_singly(struct u16550_console *uart, const uint8_t *bytes, size_t bytes
  * Proved: all bytes, burst by burst, each burst after its own wait; or those before the
  * burst whose wait reaches the limit, as many as the error reports.
  */
-static inline struct uart_maybe_stalled_error
+static struct uart_maybe_stalled_error
 uart_send_bytes_exact(struct u16550_console *uart, const uint8_t *bytes, size_t bytes_len)
 {
-    if (uart->fifo_enabled)
-        return uart_send_bursts(uart, bytes, bytes_len);
-    return uart_send_singly(uart, bytes, bytes_len);
+    size_t done = 0;
+    while (done < bytes_len) {
+        struct uart_maybe_u64 found = uart_send_some(uart, &bytes[done], bytes_len - done);
+        if (!found.is_some)
+            return uart_failed_stalled_error(done);
+        done += (size_t)found.value;
+    }
+    return uart_no_stalled_error();
 }
 
 /*
@@ -1255,6 +1223,23 @@ static inline uint8_t uart_lsr(struct u16550_console *uart)
 static inline void uart_set_modem_control(uint8_t outputs)
 {
     uart_device_write(UART_MCR, outputs & (uint8_t)~U16550_MCR_LOOP_BACK);
+}
+
+/*
+ * Sends the bytes one by one, and waits for room before each.
+ *
+ * Proved: these bytes, one by one: all of them, or a beginning.
+ */
+static struct uart_maybe_stalled_error
+uart_send_singly(struct u16550_console *uart, const uint8_t *bytes, size_t bytes_len)
+{
+    for (size_t done = 0; done < bytes_len; done++) {
+        uint8_t byte = bytes[done];
+        if (!uart_wait_to_send(uart))
+            return uart_failed_stalled_error(done);
+        uart_device_write(UART_DATA, byte);
+    }
+    return uart_no_stalled_error();
 }
 
 /* Returns what is sent for a byte of a text. */

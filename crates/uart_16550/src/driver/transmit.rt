@@ -165,8 +165,8 @@ impl<B: Backend> Uart16550<B> {
 
     // Waits until bytes may be written. The check stands once: where code is to be small, the
     // compiler then inlines it, and drops what a constant configuration does not ask for. Waiting
-    // and writing are two functions, and this one is inlined, so that each loop that sends holds one
-    // copy of the wait.
+    // and writing are two functions, and this one is inlined, so that each loop that sends holds
+    // one copy of the wait.
     #[inline(always)]
     fn wait_to_send(&mut self) -> bool
         ensures { Made B.step (WaitsToSend result) self.old self.new }
