@@ -117,7 +117,8 @@ pub begins_unhindered : (s t : State) (uart : Uart16550 MachineState) (given : M
 begins_unhindered s t uart given first config is fresh began ready lets = record {
   ready = ready;
   timely = began.follows.timely tt (timely_under s uart given first is fresh lets);
-  lacks_flow = began.follows.flow ∙ ap (λ (m : MachineState). m.chip.auto_flow) (machine_under s uart given first is fresh) ∙ lets.lacks_flow;
+  lacks_flow = began.follows.flow
+      ∙ ap (λ (m : MachineState). m.chip.auto_flow) (machine_under s uart given first is fresh) ∙ lets.lacks_flow;
 }
 
 pub begins_unchecked : (s t : State) (config : Config) → Began s config t → config.check_cts_before_sending ≡ false → IsUnchecked t

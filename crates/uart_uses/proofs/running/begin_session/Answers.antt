@@ -21,4 +21,5 @@ pub returns-in-Done-clause-room : goal.returns-in-Done-clause-room
 returns-in-Done-clause-room c =
     let done = began _ _ _ _ _ c.run.ensures.ran c.in-Done.is in
     λ room ticked has_room.
-    begins_with_room _ _ _ _ _ _ room c.inits_leave_room.ensures c.from_inner-terminal.ensures c.new_with_backend-uart.ensures done ticked has_room
+    begins_with_room _ _ _ _ _ _ room c.inits_leave_room.ensures c.from_inner-terminal.ensures c.new_with_backend-uart.ensures done ticked
+    has_room
