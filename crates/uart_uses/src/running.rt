@@ -1,29 +1,39 @@
 //! A caller of `uart_run`.
-ghost use Rattle.std.specs.Prelude.{◌≡◌, ◌∷◌, [], All, IfSome, length};
+ghost use Rattle.std.specs.Prelude.{◌≡◌, ◌∷◌, [], ℕ, false, All, IfSome, length};
 ghost use Rattle.uart_events.specs.Calls.{IsRunnable};
 ghost use Rattle.uart_events.specs.declared.call.Answer.TheVariants.{Done};
-ghost use Rattle.uart_run.specs.Progress.{HasRoom, IsUnchecked};
+ghost use Rattle.uart_run.specs.Progress.{HasRoom, IsTicked, IsUnchecked};
 ghost use Rattle.uart_run.specs.Ready.{Ready};
 ghost use Rattle.uart_run.specs.Run.{machine_of};
 ghost use Rattle.uart_run.specs.Session.{IsWithinSession, overflows};
 ghost use Rattle.uart_run.specs.Unhindered.{IsUnhindered};
 ghost use Rattle.uart_spec.specs.Config.{IsComputable};
+ghost use Rattle.uart_uses.specs.Sending.{LetsCallsEnd};
 
 use arrayvec::ArrayVec;
 use uart_16550::{Config, Uart16550, Uart16550Tty};
 use uart_calls::{Answer, CALL_BYTES, Call};
 use uart_chip::Device16550;
-use uart_run::laws::{sessions_succeed, smallest_size_fits};
+use uart_run::laws::{inits_leave_room, sessions_succeed, smallest_size_fits};
 use uart_run::run;
 
 /// Puts a driver over the chip, under a terminal, and initialises it. If that succeeds, a session
-/// begins: a new driver takes the FIFOs for 16, and each chip holds as many.
+/// begins: a new driver takes the FIFOs for 16, and each chip holds as many. The wire has the room
+/// that it had, and no call of the session is held up, if the chip lets calls end.
 pub fn begin_session(device: Device16550, config: Config) -> Option<Uart16550Tty<Device16550>>
     requires computable { IsComputable config }
-    ensures { IfSome result (λ terminal. Ready terminal) }
+    ensures begins { IfSome result (λ terminal. Ready terminal) }
+    ensures unhindered { LetsCallsEnd device →
+        IfSome result (λ terminal. IsUnhindered terminal) }
+    ensures unchecked { config.check_cts_before_sending ≡ false →
+        IfSome result (λ terminal. IsUnchecked terminal) }
+    ensures room { (room : ℕ) → IsTicked device → HasRoom room device →
+        IfSome result (λ terminal. HasRoom room (machine_of terminal)) }
 {
     smallest_size_fits();
-    let mut terminal = Uart16550Tty::from_inner(Uart16550::new_with_backend(device));
+    let uart = Uart16550::new_with_backend(device);
+    inits_leave_room(&uart);
+    let mut terminal = Uart16550Tty::from_inner(uart);
     let mut answers = [Answer::Done];
     run(&mut terminal, &[Call::Init(config)], &mut answers);
     match &answers[0] {

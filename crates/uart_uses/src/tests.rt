@@ -8,6 +8,7 @@ use crate::{
     chip, device, driver, judging, language, live, performing, playing, ring, ring_running,
     ring_starting, running, spec, tracing,
 };
+use arrayvec::ArrayVec;
 use bitflags::Flags;
 use rings::assert_equal;
 use std::num::NonZeroU64;
@@ -189,6 +190,22 @@ fn calls_in_a_session(rt: HostRuntime) -> Result<(), Fail> {
         running::make_calls(&mut terminal, &[Call::FifoEnabled], &mut answers);
     }
     assert_equal(&rt, answers, [Answer::Flag(true)]);
+    Ok(())
+}
+
+#[test]
+fn a_message_in_a_session(rt: HostRuntime) -> Result<(), Fail> {
+    let machine = device::chip_that_receives(rt.alloc(), 0x41)?;
+    let Some(mut terminal) = running::begin_session(machine, Config::DEFAULT) else {
+        assert!(rt; false, "there is no session");
+        return Ok(());
+    };
+    let mut message = ArrayVec::new();
+    message.try_extend_from_slice(b"hello")?;
+    assert_equal(&rt, message.len(), 5);
+    let answers = running::send_message(&mut terminal, message);
+    assert_equal(&rt, answers, [Answer::Done, Answer::Done]);
+    assert_equal(&rt, terminal.inner().backend().wire(), b"hello".as_slice());
     Ok(())
 }
 
