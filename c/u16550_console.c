@@ -914,8 +914,8 @@ static enum uart_loopback_error uart_exchange_byte(struct u16550_console *uart)
 /*
  * Waits until bytes may be written. The check stands once: where code is to be small, the
  * compiler then inlines it, and drops what a constant configuration does not ask for. Waiting
- * and writing are two functions, and this one is inlined, so that each loop that sends holds one
- * copy of the wait.
+ * and writing are two functions, and this one is inlined, so that each loop that sends holds
+ * one copy of the wait.
  *
  * Proved: a wait for room: a check succeeded after fewer misses in a row than the limit, or
  * there were as many misses.
