@@ -1,2 +1,3 @@
 mod Digits
+pub mod Tokens
 mod Words

@@ -1,5 +1,5 @@
 -- The ACPI table DBG2, by the offsets of its fields.
-use Rattle.std.specs.Prelude.{◌≡◌, ℕ, ◌+◌, ◌<◌, ◌≤◌, IsTrue, List, None, slice_index, length, codes}
+use Rattle.std.specs.Prelude.{◌≡◌, ℕ, ◌+◌, ◌<◌, ◌≤◌, IsTrue, List, None, false, slice_index, length, codes}
 use Rattle.uart_discovery.specs.declared.port.PortDescription.{PortDescription}
 use Rattle.uart_discovery.specs.Acpi.{SaysAddress}
 use Rattle.uart_discovery.specs.Bytes.{le16}
@@ -18,6 +18,8 @@ pub record SaysDevice (table : List ℕ) (at : ℕ) (port : PortDescription) : T
   pub address : SaysAddress table (at + le16 table (at + 18)) port.space port.base port.layout
   pub clock : port.clock ≡ None
   pub baud_rate : port.baud_rate ≡ None
+  pub frame : port.frame ≡ None
+  pub has_flow_control : port.has_flow_control ≡ false
   pub interrupt : port.interrupt ≡ None
 
 -- a device of the table is this port

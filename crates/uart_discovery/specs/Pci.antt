@@ -1,6 +1,6 @@
 -- The header of the configuration of a PCI function, by the offsets of its fields.
-use Rattle.std.specs.Prelude.{◌≡◌, ◌≢◌, ℕ, ◌+◌, ◌*◌, ◌-◌, ◌%◌, ◌^◌, ◌<◌, ◌≤◌, ◌⊎◌, ◌==◌, ◌&&◌, List, Option, Some, None}
-use Rattle.std.specs.Prelude.{if◌then◌else◌, slice_index, length}
+use Rattle.std.specs.Prelude.{◌≡◌, ◌≢◌, ℕ, ◌+◌, ◌*◌, ◌-◌, ◌%◌, ◌^◌, ◌<◌, ◌≤◌, ◌⊎◌, ◌==◌, ◌&&◌, false, List}
+use Rattle.std.specs.Prelude.{Option, Some, None, if◌then◌else◌, slice_index, length}
 use Rattle.uart_spec.specs.declared.layout.ByteOrder.TheVariants.{Little}
 use Rattle.uart_spec.specs.declared.layout.RegisterWidth.TheVariants.{Bits8}
 use Rattle.uart_discovery.specs.declared.errors.PciError.{PciError}
@@ -80,6 +80,8 @@ pub record SaysPort (header : List ℕ) (port : ℕ) (found : PortDescription) :
   pub byte_order : found.layout.byte_order ≡ Little
   pub clock : found.clock ≡ (card_in header).clock
   pub baud_rate : found.baud_rate ≡ None
+  pub frame : found.frame ≡ None
+  pub has_flow_control : found.has_flow_control ≡ false
   pub interrupt : found.interrupt ≡ pin_of header
 
 -- what is wrong with the base address

@@ -1,5 +1,5 @@
 -- The ACPI table SPCR, by the offsets of its fields.
-use Rattle.std.specs.Prelude.{◌≡◌, ◌≢◌, ℕ, ◌+◌, ◌<◌, ◌≤◌, ◌⊎◌, ◌==◌, ◌||◌, ◌&&◌, Bool, false, IsTrue, List}
+use Rattle.std.specs.Prelude.{◌≡◌, ◌≢◌, ℕ, ◌+◌, ◌<◌, ◌≤◌, ◌⊎◌, ◌==◌, ◌||◌, ◌&&◌, Bool, false, not, IsTrue, List}
 use Rattle.std.specs.Prelude.{Option, Some, None, if◌then◌else◌, nat_le, nat_lt, slice_index, length, codes, bit_and}
 use Rattle.uart_discovery.specs.declared.errors.TableError.{TableError}
 use Rattle.uart_discovery.specs.declared.errors.TableFault.{TableFault}
@@ -48,12 +48,18 @@ interrupt_of table =
     then (if bit_and (slice_index table 52) 1 == 0 then None else Some (Isa (slice_index table 53)))
     else Some (Global (le32 table 54))
 
+-- whether RTS and CTS control the flow, which is bit 1 of the flow control
+abbrev pub has_flow_control : List ℕ → Bool
+has_flow_control table = not (bit_and (slice_index table 61) 2 == 0)
+
 -- the table says that there is this port
 pub record SaysPort (table : List ℕ) (port : PortDescription) : Type 0 where
   pub interface : IsTrue (is_16550 (slice_index table 36))
   pub address : SaysAddress table 40 port.space port.base port.layout
   pub clock : port.clock ≡ clock_of table
   pub baud_rate : rate_of table ≡ Some port.baud_rate
+  pub frame : port.frame ≡ None
+  pub has_flow_control : port.has_flow_control ≡ has_flow_control table
   pub interrupt : port.interrupt ≡ interrupt_of table
 
 -- what is wrong with the table

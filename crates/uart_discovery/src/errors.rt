@@ -81,7 +81,8 @@ pub enum OptionError {
     /// The name is not that of a port with the interface of a 16550.
     #[error("the name is not that of a 16550")]
     Name,
-    /// The kind of access is none of `io`, `mmio`, `mmio16`, `mmio32` and `mmio32be`.
+    /// The kind of access is none of `io`, `mmio`, `mmio16`, `mmio32`, `mmio32be` and
+    /// `mmio32native`, and no address has its place.
     #[error("the kind of access has no meaning")]
     Access,
     /// The address is not written as `0x` and 1 to 16 hexadecimal digits, or is 0.
@@ -90,10 +91,13 @@ pub enum OptionError {
     /// The last register would be beyond the last I/O port.
     #[error("the registers are beyond the last I/O port")]
     BeyondPorts,
-    /// The baud rate is not 1 to 9 decimal digits, or is 0, or something else stands behind it than
-    /// `n8` or `n`, the frame of 8 bits without parity.
+    /// The baud rate is not 1 to 9 decimal digits, or is 0.
     #[error("the baud rate has a wrong form")]
     BaudRate,
+    /// Behind the baud rate stands no frame: a parity, which is `n`, `o` or `e`, then the number of
+    /// data bits, from `5` to `8`, then `r` for flow control. The last two may be left out.
+    #[error("the frame behind the baud rate has no meaning")]
+    Frame,
     /// The frequency of the clock is not 1 to 9 decimal digits, or is 0.
     #[error("the frequency of the clock has a wrong form")]
     Clock,

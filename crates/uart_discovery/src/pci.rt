@@ -252,6 +252,8 @@ pub fn read_pci(header: &[u8], port: u8) -> Result<PortDescription, PciError>
         },
         clock: card.clock,
         baud_rate: None,
+        frame: None,
+        has_flow_control: false,
         interrupt: pin_of(header),
     })
 }

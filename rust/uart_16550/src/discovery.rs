@@ -4,7 +4,7 @@
 //! |---|---|---|
 //! | the ACPI table SPCR | [`read_spcr`] | servers, and virtual machines with ACPI |
 //! | the ACPI table DBG2 | [`read_dbg2`] | the same |
-//! | a device tree | [`read_device_tree`], [`read_tree_node`] | RISC-V, Arm, PowerPC, MIPS, LoongArch |
+//! | a device tree | [`read_device_tree`], [`read_tree_node`], [`tree_ports`] | RISC-V, Arm, PowerPC, MIPS, LoongArch |
 //! | the header of a PCI function | [`read_pci`] | cards |
 //! | `earlycon=` or `console=` of a command line | [`read_earlycon`], [`read_console`] | Linux's boot protocols, Multiboot |
 //!
@@ -45,16 +45,17 @@
 //! ```
 
 pub use uart_discovery::{
-    AddressSpace, Interrupt, OptionError, PciError, PortDescription, TableError, TableFault,
-    TreeError, read_console, read_dbg2, read_device_tree, read_earlycon, read_pci, read_spcr,
-    read_tree_node,
+    AddressSpace, Frame, Interrupt, OptionError, PciError, PortDescription, TableError, TableFault,
+    TreeError, TreePort, read_console, read_dbg2, read_device_tree, read_earlycon, read_pci,
+    read_spcr, read_tree_node, read_tree_port,
 };
 
 use core::error::Error;
 use core::fmt;
+use core::iter;
 use uart_driver::backend::Backend;
 use uart_driver::{AttachError, BaudRate, Config, Uart16550};
-use uart_spec::{CLK_FREQUENCY_HZ, checked_frequency};
+use uart_spec::{ByteOrder, CLK_FREQUENCY_HZ, checked_frequency};
 
 /// The first port that ISA does not have: it decodes ten bits of an address.
 const END_OF_PC_PORTS: u64 = 0x400;
@@ -71,8 +72,46 @@ impl fmt::Display for UnknownClockError {
 
 impl Error for UnknownClockError {}
 
-/// Returns a configuration with the clock and the baud rate of a port. What its description does not say is
-/// that of [`Config::DEFAULT`], but for the clock: that of a PC is taken for the I/O ports of a PC alone,
+/// Returns each port of a device tree, in its order, as [`read_tree_port`] finds it. It ends after an error of
+/// the tree, and goes on after a port that cannot be used. Each port costs a pass over the tree.
+///
+/// # Examples
+///
+/// ```
+/// use uart_16550::discovery::{TreeError, TreePort, tree_ports};
+/// use uart_16550::native::backend::ByteOrder;
+///
+/// fn ttys(tree: &[u8]) -> Result<usize, TreeError> {
+///     let mut count = 0;
+///     for found in tree_ports(tree, ByteOrder::NATIVE) {
+///         let TreePort { alias, port, .. } = found?;
+///         if let (Some(number), Ok(port)) = (alias, port) {
+///             println!("ttyS{number} is at {:#x}", port.base);
+///             count += 1;
+///         }
+///     }
+///     Ok(count)
+/// }
+/// assert_eq!(ttys(&[0; 64]), Err(TreeError::Magic));
+/// ```
+pub fn tree_ports(
+    blob: &[u8],
+    native: ByteOrder,
+) -> impl Iterator<Item = Result<TreePort, TreeError>> {
+    let mut next = Some(0);
+    iter::from_fn(move || {
+        let index: usize = next?;
+        let found = read_tree_port(blob, index, native).transpose();
+        next = match found {
+            Some(Ok(_)) => index.checked_add(1),
+            _ => None,
+        };
+        found
+    })
+}
+
+/// Returns a configuration with the clock, the baud rate and the frame of a port. What its description does
+/// not say is that of [`Config::DEFAULT`], but for the clock: that of a PC is taken for the I/O ports of a PC alone,
 /// which are below 400.
 ///
 /// # Errors
@@ -83,8 +122,9 @@ impl Error for UnknownClockError {}
 ///
 /// ```
 /// use uart_16550::discovery::{UnknownClockError, config_of, read_earlycon};
+/// use uart_16550::native::backend::ByteOrder;
 ///
-/// let mut port = read_earlycon(b"uart8250,mmio32,0xfe215040,115200n8")?;
+/// let mut port = read_earlycon(b"uart8250,mmio32,0xfe215040,115200n8", ByteOrder::NATIVE)?;
 /// assert_eq!(config_of(&port).err(), Some(UnknownClockError));
 /// // The manual of the board says it.
 /// port.clock = Some(500_000_000);
@@ -100,11 +140,13 @@ pub fn config_of(port: &PortDescription) -> Result<Config, UnknownClockError> {
         None if is_of_pc => CLK_FREQUENCY_HZ,
         None => return Err(UnknownClockError),
     };
+    let Config { baud_rate, data_bits, parity, .. } = Config::DEFAULT;
+    let Frame { data_bits, parity } = port.frame.unwrap_or(Frame { data_bits, parity });
     Ok(Config {
         frequency,
-        baud_rate: port
-            .baud_rate
-            .map_or(Config::DEFAULT.baud_rate, BaudRate::from_integer),
+        baud_rate: port.baud_rate.map_or(baud_rate, BaudRate::from_integer),
+        data_bits,
+        parity,
         ..Config::DEFAULT
     })
 }

@@ -6,12 +6,13 @@ mod common;
 
 use common::Chip;
 use uart_16550::discovery::{
-    AddressSpace, Interrupt, OptionError, PciError, PortDescription, TableError, TableFault,
-    TreeError, UnknownClockError, config_of, keep_settings, read_console, read_dbg2, read_device_tree,
-    read_earlycon, read_pci, read_spcr, read_tree_node,
+    AddressSpace, Frame, Interrupt, OptionError, PciError, PortDescription, TableError, TableFault,
+    TreeError, TreePort, UnknownClockError, config_of, keep_settings, read_console, read_dbg2, read_device_tree,
+    read_earlycon, read_pci, read_spcr, read_tree_node, read_tree_port, tree_ports,
 };
 use uart_16550::native::{AttachError, Uart16550};
 use uart_16550::native::backend::{ByteOrder, RegisterLayout, RegisterWidth};
+use uart_16550::spec::registers::{Parity, WordLength};
 
 const BYTES: RegisterLayout = RegisterLayout {
     stride: 1,
@@ -70,9 +71,16 @@ fn spcr_says_com1() {
         layout: BYTES,
         clock: None,
         baud_rate: Some(115_200),
+        frame: None,
+        has_flow_control: false,
         interrupt: Some(Interrupt::Isa(4)),
     };
     assert_eq!(read_spcr(&spcr_of_a_pc()), Ok(found));
+    // RTS and CTS, and DCD and XON beside them.
+    for (bits, has_flow_control) in [(2, true), (7, true), (5, false)] {
+        let table = changed(&spcr_of_a_pc(), &[(61, bits)]);
+        assert_eq!(read_spcr(&table), Ok(PortDescription { has_flow_control, ..found }));
+    }
     let mut followed = spcr_of_a_pc();
     followed.extend([0xaa; 40]);
     assert_eq!(read_spcr(&followed), Ok(found));
@@ -123,6 +131,8 @@ fn spcr_says_memory_with_clock_and_precise_rate() {
         },
         clock: Some(48_000_000),
         baud_rate: Some(1_500_000),
+        frame: None,
+        has_flow_control: false,
         interrupt: Some(Interrupt::Global(33)),
     };
     assert_eq!(read_spcr(&long), Ok(found));
@@ -220,6 +230,8 @@ fn dbg2_says_the_first_16550() {
         layout: BYTES,
         clock: None,
         baud_rate: None,
+        frame: None,
+        has_flow_control: false,
         interrupt: None,
     };
     assert_eq!(read_dbg2(&good), Ok(found));
@@ -253,40 +265,83 @@ fn dbg2_says_the_first_16550() {
     assert_eq!(read_dbg2(&spcr_of_a_pc()), wrong(0, TableFault::Signature));
 }
 
+/// A port of a command line, without a clock, a rate and a frame.
+fn at(space: AddressSpace, base: u64, width: RegisterWidth, byte_order: ByteOrder) -> PortDescription {
+    PortDescription {
+        space,
+        base,
+        layout: RegisterLayout {
+            stride: width.bytes(),
+            width,
+            byte_order,
+        },
+        clock: None,
+        baud_rate: None,
+        frame: None,
+        has_flow_control: false,
+        interrupt: None,
+    }
+}
+
+/// A port with the options `bbbbpn`.
+fn with(port: PortDescription, rate: u32, parity: Parity, data_bits: WordLength) -> PortDescription {
+    PortDescription {
+        baud_rate: Some(rate),
+        frame: Some(Frame { data_bits, parity }),
+        ..port
+    }
+}
+
+/// Each form that Linux documents for its parameters `earlycon=` and `console=` with this chip: a name `uart` or `uart8250`; then the kind
+/// of access, or none, which is memory of bytes; an address; options of a rate, a parity, a number of bits and flow control by RTS, which
+/// may be left out; and for `earlycon=` the frequency of the clock. Its drivers also take the names of device trees, and `mmio32native`.
 #[test]
 fn earlycon_says_a_port() {
-    let of = |space, base, stride, width, byte_order, baud_rate, clock| {
-        Ok(PortDescription {
-            space,
-            base,
-            layout: RegisterLayout {
-                stride,
-                width,
-                byte_order,
-            },
-            clock,
-            baud_rate,
-            interrupt: None,
-        })
-    };
     use AddressSpace::{Memory, Ports};
     use ByteOrder::{Big, Little};
+    use Parity::{Disabled, Even, Odd};
     use RegisterWidth::{Bits8, Bits16, Bits32};
-    let rate = Some(115_200);
+    use WordLength::{EightBits, FiveBits, SevenBits, SixBits};
+    let com1 = at(Ports, 0x3f8, Bits8, Little);
+    let bytes = at(Memory, 0xfe20_1000, Bits8, Little);
+    let words = at(Memory, 0xfe21_5040, Bits32, Little);
+    let clocked = |port, clock| PortDescription { clock: Some(clock), ..port };
+    let by_rts = |port| PortDescription { has_flow_control: true, ..port };
+    let rated = |port, rate| PortDescription { baud_rate: Some(rate), ..port };
     for (text, found) in [
-        ("uart8250,io,0x3f8,115200n8", of(Ports, 0x3f8, 1, Bits8, Little, rate, None)),
-        ("uart,io,0x2F8", of(Ports, 0x2f8, 1, Bits8, Little, None, None)),
-        ("uart8250,mmio,0x10000000,9600", of(Memory, 0x1000_0000, 1, Bits8, Little, Some(9_600), None)),
-        ("uart8250,mmio16,0x20,115200n", of(Memory, 0x20, 2, Bits16, Little, rate, None)),
-        ("uart8250,mmio32,0xfe215040,115200n8,500000000", of(Memory, 0xfe21_5040, 4, Bits32, Little, rate, Some(500_000_000))),
-        ("uart8250,mmio32be,0xffffffffffffffff,,24000000", of(Memory, u64::MAX, 4, Bits32, Big, None, Some(24_000_000))),
+        ("uart8250,io,0x3f8", Ok(com1)),
+        ("uart,io,0x3F8", Ok(com1)),
+        ("uart8250,io,0x3f8,9600n8", Ok(with(com1, 9_600, Disabled, EightBits))),
+        ("uart8250,io,0x3f8,9600", Ok(rated(com1, 9_600))),
+        ("uart8250,io,0x3f8,9600n", Ok(with(com1, 9_600, Disabled, EightBits))),
+        ("uart,io,0x3f8,9600e", Ok(with(com1, 9_600, Even, EightBits))),
+        ("uart,io,0x3f8,9600e7", Ok(with(com1, 9_600, Even, SevenBits))),
+        ("uart,io,0x3f8,9600o6", Ok(with(com1, 9_600, Odd, SixBits))),
+        ("uart,io,0x3f8,9600n5r", Ok(by_rts(with(com1, 9_600, Disabled, FiveBits)))),
+        ("uart8250,io,0x3f8,115200n8r", Ok(by_rts(with(com1, 115_200, Disabled, EightBits)))),
+        ("uart8250,io,0x3f8,115200n8,24000000", Ok(clocked(with(com1, 115_200, Disabled, EightBits), 24_000_000))),
+        ("uart8250,io,0x3f8,,24000000", Ok(clocked(com1, 24_000_000))),
+        ("uart8250,0xfe201000", Ok(bytes)),
+        ("uart8250,0xfe201000,115200n8", Ok(with(bytes, 115_200, Disabled, EightBits))),
+        ("uart,0xfe201000,115200n8r,48000000", Ok(clocked(by_rts(with(bytes, 115_200, Disabled, EightBits)), 48_000_000))),
+        ("uart8250,mmio,0xfe201000,9600", Ok(rated(bytes, 9_600))),
+        ("uart8250,mmio16,0x20,115200n", Ok(with(at(Memory, 0x20, Bits16, Little), 115_200, Disabled, EightBits))),
+        ("uart8250,mmio32,0xfe215040,115200n8,500000000", Ok(clocked(with(words, 115_200, Disabled, EightBits), 500_000_000))),
+        ("uart8250,mmio32be,0xffffffffffffffff,,24000000", Ok(clocked(at(Memory, u64::MAX, Bits32, Big), 24_000_000))),
+        ("ns16550a,mmio32,0xfe215040", Ok(words)),
+        ("ns16550,mmio32,0xfe215040,9600e7", Ok(with(words, 9_600, Even, SevenBits))),
         ("", Err(OptionError::Name)),
         ("pl011,mmio,0x9000000", Err(OptionError::Name)),
+        ("uart8250a,io,0x3f8", Err(OptionError::Name)),
+        ("ttyS0", Err(OptionError::Name)),
         ("uart8250", Err(OptionError::Access)),
+        ("uart8250,", Err(OptionError::Access)),
         ("uart8250,mmio64,0x20", Err(OptionError::Access)),
+        ("uart8250,3f8", Err(OptionError::Access)),
         ("uart8250,io", Err(OptionError::Address)),
         ("uart8250,io,3f8", Err(OptionError::Address)),
         ("uart8250,io,0x", Err(OptionError::Address)),
+        ("uart8250,0x", Err(OptionError::Address)),
         ("uart8250,io,0x+1", Err(OptionError::Address)),
         ("uart8250,io,0x0", Err(OptionError::Address)),
         ("uart8250,mmio,0x10000000000000000", Err(OptionError::Address)),
@@ -294,34 +349,54 @@ fn earlycon_says_a_port() {
         ("uart8250,io,0x3f8,n8", Err(OptionError::BaudRate)),
         ("uart8250,io,0x3f8,0n8", Err(OptionError::BaudRate)),
         ("uart8250,io,0x3f8,1234567890", Err(OptionError::BaudRate)),
-        ("uart8250,io,0x3f8,115200e7", Err(OptionError::BaudRate)),
+        ("uart8250,io,0x3f8,115200m8", Err(OptionError::Frame)),
+        ("uart8250,io,0x3f8,115200r", Err(OptionError::Frame)),
+        ("uart8250,io,0x3f8,115200n9", Err(OptionError::Frame)),
+        ("uart8250,io,0x3f8,115200n4", Err(OptionError::Frame)),
+        ("uart8250,io,0x3f8,115200n8x", Err(OptionError::Frame)),
+        ("uart8250,io,0x3f8,115200n8rr", Err(OptionError::Frame)),
         ("uart8250,io,0x3f8,115200n8,fast", Err(OptionError::Clock)),
         ("uart8250,io,0x3f8,115200n8,1,2", Err(OptionError::TooMany)),
+        ("uart8250,0x3f8,115200n8,1,2", Err(OptionError::TooMany)),
     ] {
-        assert_eq!(read_earlycon(text.as_bytes()), found, "{text}");
+        assert_eq!(read_earlycon(text.as_bytes(), Big), found, "{text}");
+        // `console=` takes the same, but that the ports of a PC have names there.
+        if text != "ttyS0" {
+            assert_eq!(read_console(text.as_bytes(), Big), found, "console={text}");
+        }
     }
+    for native in [Little, Big] {
+        let found = read_earlycon(b"uart8250,mmio32native,0xfe215040", native);
+        assert_eq!(found, Ok(at(Memory, 0xfe21_5040, Bits32, native)));
+    }
+    assert_eq!(OptionError::Frame.to_string(), "the frame behind the baud rate has no meaning");
 }
 
 #[test]
-fn console_says_a_port_of_a_pc() {
-    for (text, base, line, baud_rate) in [
-        ("ttyS0,115200n8", 0x3f8, 4, Some(115_200)),
-        ("ttyS1", 0x2f8, 3, None),
-        ("ttyS2,9600", 0x3e8, 4, Some(9_600)),
-        ("ttyS3,38400n8", 0x2e8, 3, Some(38_400)),
+fn console_says_a_port() {
+    use WordLength::{EightBits, SevenBits};
+    let of = |base, line| PortDescription {
+        clock: Some(1_843_200),
+        interrupt: Some(Interrupt::Isa(line)),
+        ..at(AddressSpace::Ports, base, RegisterWidth::Bits8, ByteOrder::Little)
+    };
+    let read = |text: &str| read_console(text.as_bytes(), ByteOrder::Little);
+    for (text, found) in [
+        ("ttyS0,115200n8", with(of(0x3f8, 4), 115_200, Parity::Disabled, EightBits)),
+        ("ttyS1", of(0x2f8, 3)),
+        ("ttyS2,9600e7", with(of(0x3e8, 4), 9_600, Parity::Even, SevenBits)),
+        ("ttyS3,38400n8", with(of(0x2e8, 3), 38_400, Parity::Disabled, EightBits)),
+        ("ttyS0,", of(0x3f8, 4)),
     ] {
-        let found = PortDescription {
-            space: AddressSpace::Ports,
-            base,
-            layout: BYTES,
-            clock: Some(1_843_200),
-            baud_rate,
-            interrupt: Some(Interrupt::Isa(line)),
-        };
-        assert_eq!(read_console(text.as_bytes()), Ok(found), "{text}");
+        assert_eq!(read(text), Ok(found), "{text}");
     }
-    assert_eq!(read_console(b"tty0"), Err(OptionError::Name));
-    assert_eq!(read_console(b"ttyS0,115200,x"), Err(OptionError::TooMany));
+    let by_rts = with(of(0x3f8, 4), 115_200, Parity::Disabled, EightBits);
+    assert_eq!(read("ttyS0,115200n8r"), Ok(PortDescription { has_flow_control: true, ..by_rts }));
+    assert_eq!(read("uart,io,0x3f8,115200").unwrap().clock, None);
+    assert_eq!(read("tty0"), Err(OptionError::Name));
+    assert_eq!(read("ttyS4"), Err(OptionError::Name));
+    assert_eq!(read("ttyS0,115200n9"), Err(OptionError::Frame));
+    assert_eq!(read("ttyS0,115200,24000000"), Err(OptionError::TooMany));
 }
 
 /// The header of QEMU's `pci-serial-4x` at port C040.
@@ -344,6 +419,8 @@ fn pci_says_each_port() {
         layout: BYTES,
         clock: Some(1_843_200),
         baud_rate: None,
+        frame: None,
+        has_flow_control: false,
         interrupt: Some(Interrupt::Pin(1)),
     };
     for port in 0..4 {
@@ -392,16 +469,19 @@ fn pci_says_each_port() {
 
 #[test]
 fn a_description_becomes_a_configuration() {
-    let port = read_earlycon(b"uart8250,io,0x3f8,9600n8,24000000").unwrap();
-    let config = config_of(&port).unwrap();
+    let of = |text: &[u8]| config_of(&read_earlycon(text, ByteOrder::Little).unwrap()).unwrap();
+    let config = of(b"uart8250,io,0x3f8,9600e7,24000000");
     assert_eq!(config.frequency, 24_000_000);
     assert_eq!(config.baud_rate.to_integer(), 9_600);
+    assert_eq!((config.data_bits, config.parity), (WordLength::SevenBits, Parity::Even));
+    let config = of(b"uart8250,io,0x3f8,9600,24000000");
+    assert_eq!((config.data_bits, config.parity), (WordLength::EightBits, Parity::Disabled));
 }
 
 /// A clock that nothing says is that of a PC at the ports of a PC alone.
 #[test]
 fn no_clock_is_guessed() {
-    let of = |text: &[u8]| read_earlycon(text).unwrap();
+    let of = |text: &[u8]| read_earlycon(text, ByteOrder::Little).unwrap();
     let frequency = |port: &PortDescription| config_of(port).map(|config| config.frequency);
     assert_eq!(frequency(&of(b"uart,io,0x3f8")), Ok(1_843_200));
     assert_eq!(frequency(&read_spcr(&spcr_of_a_pc()).unwrap()), Ok(1_843_200));
@@ -560,10 +640,15 @@ fn a_tree_says_a_port_behind_two_buses() {
         layout: BYTES,
         clock: None,
         baud_rate: Some(115_200),
+        frame: None,
+        has_flow_control: false,
         interrupt: None,
     };
     let plain = tree_with(b"serial0:115200n8\0", &RANGES, &[]);
-    assert_eq!(found(&plain), Ok(port));
+    assert_eq!(found(&plain), Ok(with(port, 115_200, Parity::Disabled, WordLength::EightBits)));
+    let framed = with(port, 9_600, Parity::Even, WordLength::SevenBits);
+    let framed = PortDescription { has_flow_control: true, ..framed };
+    assert_eq!(found(&tree_with(b"serial0:9600e7r\0", &RANGES, &[])), Ok(framed));
     assert_eq!(read_tree_node(&plain, b"/soc/bus/uart", ByteOrder::Big), Ok(PortDescription { baud_rate: None, ..port }));
     port.base += 0x20;
     port.layout = RegisterLayout {
@@ -573,7 +658,7 @@ fn a_tree_says_a_port_behind_two_buses() {
     };
     port.clock = Some(24_000_000);
     port.baud_rate = Some(9_600);
-    port.interrupt = Some(Interrupt::Cells([0, 42, 4], 3));
+    port.interrupt = Some(Interrupt::Cells { parent: None, cells: [0, 42, 4, 0], count: 3 });
     let rows: [(&str, &[u32]); 6] = [
         ("reg-offset", &[0x20]),
         ("reg-shift", &[2]),
@@ -597,6 +682,8 @@ fn a_tree_says_a_port_behind_two_buses() {
             layout: BYTES,
             clock: None,
             baud_rate: None,
+            frame: None,
+            has_flow_control: false,
             interrupt: None,
             ..port
         })
@@ -614,8 +701,8 @@ fn a_tree_says_why_it_has_no_port() {
     assert_eq!(found("/soc/uart", &RANGES, &[]), Err(TreeError::NoNode));
     assert_eq!(found("/soc/bus/other", &RANGES, &[]), Err(TreeError::NotCompatible));
     assert_eq!(
-        found("serial0:115200e7", &RANGES, &[]),
-        Err(TreeError::Options(OptionError::BaudRate))
+        found("serial0:115200m7", &RANGES, &[]),
+        Err(TreeError::Options(OptionError::Frame))
     );
     // No range has the address, or it has half a row.
     assert_eq!(found("serial0", &RANGES[..3], &[]), Err(TreeError::Untranslated));
@@ -631,13 +718,138 @@ fn a_tree_says_why_it_has_no_port() {
     assert_eq!(TreeError::Options(OptionError::BaudRate).to_string(), "the options of the console: the baud rate has a wrong form");
 }
 
+/// An interrupt of so many cells.
+const fn cells(parent: u32, cells: [u32; 4], count: u8) -> Interrupt {
+    Interrupt::Cells { parent: Some(parent), cells, count }
+}
+
+/// A tree with two controllers of interrupts, two clocks, and ports that use them.
+fn tree_of_ports() -> Vec<u8> {
+    let mut tree = Written::default();
+    tree.begin("").cells("#address-cells", &[1]).cells("#size-cells", &[1]).cells("interrupt-parent", &[1]);
+    tree.begin("aliases").property("ethernet0", b"/soc/uart@100\0").property("serial", b"/soc/uart@100\0");
+    tree.property("serial9", b"/soc/none\0").property("serialx", b"/soc/uart@100\0").property("serial1000000000", b"/soc/uart@100\0");
+    tree.property("serial1", b"/soc/uart@0\0").property("serial0", b"/soc/uart@200\0").property("serial5", b"/soc/uart@0\0");
+    tree.property("serial12", b"/soc/uart@500\0").end();
+    tree.begin("gic").cells("phandle", &[1]).cells("#interrupt-cells", &[3]).end();
+    tree.begin("crystal").cells("phandle", &[3]).property("compatible", b"fixed-clock\0").cells("clock-frequency", &[24_000_000]).end();
+    tree.begin("clocks").cells("phandle", &[4]).property("compatible", b"some,clocks\0").cells("clock-frequency", &[9]).end();
+    tree.begin("soc").cells("#address-cells", &[1]).cells("#size-cells", &[1]).cells("ranges", &[]).cells("interrupt-parent", &[2]);
+    tree.begin("plic").cells("linux,phandle", &[2]).cells("#interrupt-cells", &[1]).end();
+    for (name, rows) in PORTS_OF_TREE {
+        let address = u32::from_str_radix(name.strip_prefix("uart@").unwrap(), 16).unwrap();
+        tree.begin(name).property("compatible", b"vendor,uart\0ns16550\0").cells("reg", &[address, 0x100]);
+        for (name, cells) in rows {
+            tree.cells(name, cells);
+        }
+        tree.end();
+    }
+    tree.begin("pl011").property("compatible", b"arm,pl011\0").end();
+    // A controller whose children need not name it, and a bus that the processor does not see.
+    tree.begin("bridge").cells("phandle", &[6]).cells("#interrupt-cells", &[1]);
+    tree.begin("uart").property("compatible", b"ns16450\0").cells("reg", &[0, 0, 8]).cells("interrupts", &[1]).end();
+    tree.end().end().end().blob()
+}
+
+type Rows = [(&'static str, &'static [u32])];
+
+/// The ports below `soc`: the name, and what it has beside `compatible` and `reg`.
+const PORTS_OF_TREE: [(&str, &Rows); 9] = [
+    ("uart@0", &[("interrupts", &[10, 11]), ("clocks", &[3])]),
+    ("uart@100", &[("interrupt-parent", &[1]), ("interrupts", &[0, 42, 4, 0, 43, 4]), ("clocks", &[4, 7])]),
+    ("uart@200", &[("interrupts", &[9]), ("interrupts-extended", &[1, 0, 44, 4, 2]), ("clocks", &[3]), ("clock-frequency", &[1_843_200])]),
+    ("uart@300", &[("interrupts-extended", &[7, 1, 2, 3, 4, 5]), ("clocks", &[])]),
+    ("uart@400", &[("interrupt-parent", &[1]), ("interrupts", &[5])]),
+    ("uart@500", &[("status", &[u32::from_be_bytes(*b"fail")])]),
+    ("uart@600", &[("interrupts-extended", &[])]),
+    ("uart@700", &[("interrupts-extended", &[2]), ("clocks", &[9])]),
+    ("uart@800", &[]),
+];
+
+#[test]
+fn a_tree_says_each_of_its_ports() {
+    let tree = tree_of_ports();
+    let ports: Vec<TreePort> = tree_ports(&tree, ByteOrder::Little).map(Result::unwrap).collect();
+    let of = |base, clock, interrupt| {
+        let port = at(AddressSpace::Memory, base, RegisterWidth::Bits8, ByteOrder::Little);
+        Ok(PortDescription { clock, interrupt, ..port })
+    };
+    let found: Vec<_> = ports.iter().map(|found| (found.alias, found.port)).collect();
+    assert_eq!(
+        found,
+        [
+            (Some(1), of(0, Some(24_000_000), Some(cells(2, [10, 0, 0, 0], 1)))),
+            (None, of(0x100, None, Some(cells(1, [0, 42, 4, 0], 3)))),
+            (Some(0), of(0x200, Some(1_843_200), Some(cells(1, [0, 44, 4, 0], 3)))),
+            // No node has this phandle, so nothing says how many cells there are.
+            (None, of(0x300, None, Some(cells(7, [1, 2, 3, 4], 4)))),
+            (None, Err(TreeError::PropertySize)),
+            (Some(12), Err(TreeError::Disabled)),
+            (None, Err(TreeError::PropertySize)),
+            (None, Err(TreeError::PropertySize)),
+            (None, of(0x800, None, None)),
+            (None, Err(TreeError::Untranslated)),
+        ]
+    );
+    // Each is another node, in the order of the tree, and each is found by its index.
+    assert!(ports.is_sorted_by(|one, next| one.properties < next.properties));
+    for (index, port) in ports.iter().enumerate() {
+        assert_eq!(read_tree_port(&tree, index, ByteOrder::Little), Ok(Some(*port)));
+        // The first property is `compatible`, whose value has 20 or 8 bytes.
+        let at = 40 + port.properties;
+        let words = [0, 4].map(|place| u32::from_be_bytes(tree[at + place..at + place + 4].try_into().unwrap()));
+        assert_eq!(words, [3, if index == 9 { 8 } else { 20 }]);
+    }
+    for index in [10, 11, usize::MAX] {
+        assert_eq!(read_tree_port(&tree, index, ByteOrder::Little), Ok(None));
+    }
+    assert_eq!(
+        read_tree_node(&tree, b"serial0", ByteOrder::Little),
+        ports[2].port
+    );
+}
+
+/// A tree that ends too early has an error at its end, and not one for ever.
+#[test]
+fn ports_of_a_wrong_tree_end() {
+    let mut tree = Written::default();
+    tree.begin("");
+    for _port in 0..2 {
+        tree.begin("uart").property("compatible", b"ns16550\0").end();
+    }
+    let mut tree = tree.end().blob();
+    let bases = |tree: &[u8]| tree_ports(tree, ByteOrder::Little).map(|found| found.map(|it| it.port)).collect::<Vec<_>>();
+    let lacking = Ok(Err(TreeError::NoAddress));
+    assert_eq!(bases(&tree), [lacking, lacking]);
+    // The structure ends behind the last node.
+    let short = u32::from_be_bytes(tree[36..40].try_into().unwrap()) - 4;
+    tree[36..40].copy_from_slice(&short.to_be_bytes());
+    assert_eq!(bases(&tree), [lacking, lacking, Err(TreeError::Truncated)]);
+    assert_eq!(tree_ports(&[], ByteOrder::Little).collect::<Vec<_>>(), [Err(TreeError::Truncated)]);
+    // A node that ends and has not begun.
+    let mut tree = Written::default();
+    let tree = tree.begin("").end().end().begin("").property("compatible", b"ns16550\0").end().blob();
+    assert_eq!(tree_ports(&tree, ByteOrder::Little).collect::<Vec<_>>(), [Err(TreeError::Truncated)]);
+    // Nodes in each other, of which the last is too deep for its address.
+    let mut tree = Written::default();
+    for _node in 0..17 {
+        tree.begin("a");
+    }
+    tree.property("compatible", b"ns16550\0");
+    for _node in 0..17 {
+        tree.end();
+    }
+    let found: Vec<_> = tree_ports(&tree.blob(), ByteOrder::Little).map(|found| found.unwrap().port).collect();
+    assert_eq!(found, [Err(TreeError::Depth)]);
+}
+
 /// The trees of emulated boards, as QEMU makes them, and the ports that they have.
 const BOARDS: [(&str, &[u8], u64, u32, Interrupt); 5] = [
-    ("riscv64 virt", include_bytes!("discovery/riscv64-virt.dtb"), 0x1000_0000, 3_686_400, Interrupt::Cells([10, 0, 0], 1)),
-    ("riscv32 virt", include_bytes!("discovery/riscv32-virt.dtb"), 0x1000_0000, 3_686_400, Interrupt::Cells([10, 0, 0], 1)),
+    ("riscv64 virt", include_bytes!("discovery/riscv64-virt.dtb"), 0x1000_0000, 3_686_400, cells(3, [10, 0, 0, 0], 1)),
+    ("riscv32 virt", include_bytes!("discovery/riscv32-virt.dtb"), 0x1000_0000, 3_686_400, cells(3, [10, 0, 0, 0], 1)),
     ("loongarch64 virt", include_bytes!("discovery/loongarch64-virt.dtb"), 0x1fe0_01e0, 100_000_000, Interrupt::Pin(0)),
-    ("ppc ppce500", include_bytes!("discovery/ppce500.dtb"), 0xf_e000_4500, 400_000_000, Interrupt::Cells([42, 2, 0], 2)),
-    ("ppc mpc8544ds", include_bytes!("discovery/mpc8544ds.dtb"), 0xe000_4500, 400_000_000, Interrupt::Cells([42, 2, 0], 2)),
+    ("ppc ppce500", include_bytes!("discovery/ppce500.dtb"), 0xf_e000_4500, 400_000_000, cells(32_771, [42, 2, 0, 0], 2)),
+    ("ppc mpc8544ds", include_bytes!("discovery/mpc8544ds.dtb"), 0xe000_4500, 400_000_000, cells(32_770, [42, 2, 0, 0], 2)),
 ];
 
 #[test]
@@ -649,10 +861,20 @@ fn emulated_boards_say_their_ports() {
             layout: BYTES,
             clock: Some(clock),
             baud_rate: None,
+            frame: None,
+            has_flow_control: false,
             // A tree that says no interrupt.
             interrupt: (interrupt != Interrupt::Pin(0)).then_some(interrupt),
         };
         assert_eq!(read_device_tree(tree, ByteOrder::Little), Ok(found), "{name}");
+        let ports: Vec<TreePort> = tree_ports(tree, ByteOrder::Little).map(Result::unwrap).collect();
+        let (aliases, bases): (Vec<_>, Vec<_>) = ports.iter().map(|it| (it.alias, it.port.unwrap().base)).unzip();
+        if name.starts_with("ppc") {
+            assert_eq!((aliases, bases), (vec![Some(0), Some(1)], vec![base, base + 0x100]), "{name}");
+        } else {
+            assert_eq!((aliases, bases), (vec![None], vec![base]), "{name}");
+        }
+        assert_eq!(ports[0].port, Ok(found), "{name}");
     }
 }
 
@@ -666,6 +888,10 @@ fn a_damaged_tree_is_no_panic() {
             let tree = damaged(tree, &mut numbers);
             found += u32::from(read_device_tree(&tree, ByteOrder::Little).is_ok());
             let _ = read_tree_node(&tree, b"serial0", ByteOrder::Big);
+            // Each port begins a node, so there are not many.
+            if numbers.below(16) == 0 {
+                assert!(tree_ports(&tree, ByteOrder::Little).count() <= 1 + tree.len() / 8);
+            }
         }
     }
     assert!(found > count() / 10);
@@ -676,6 +902,26 @@ fn line_of(port: &PortDescription) -> String {
     let order = if port.layout.byte_order == ByteOrder::Big { "big" } else { "little" };
     let RegisterLayout { stride, width, .. } = port.layout;
     format!("{:x} {stride} {} {order}", port.base, width.bytes())
+}
+
+/// A number, or that there is none.
+fn number_of(number: Option<u32>) -> String {
+    number.map_or("-".into(), |number| number.to_string())
+}
+
+/// What is said of one of the ports, with its alias, its clock and its interrupt.
+fn wired(found: &TreePort) -> String {
+    let alias = number_of(found.alias);
+    let Ok(port) = found.port else {
+        return format!("{alias} -");
+    };
+    let interrupt = match port.interrupt {
+        Some(Interrupt::Cells { parent, cells, count }) => cells[..usize::from(count)]
+            .iter()
+            .fold(number_of(parent), |text, cell| format!("{text}:{cell}")),
+        _ => "-".into(),
+    };
+    format!("{alias} {} {} {interrupt}", line_of(&port), number_of(port.clock))
 }
 
 /// The divisor that a driver sets for a console; or the clock by what the firmware has set, where nothing says the clock, or that clock
@@ -689,7 +935,7 @@ fn start_of(mut port: PortDescription) -> String {
     }
     keep_settings(&mut uart, &mut port).unwrap();
     assert_eq!(uart.backend().latch, [13, 0]);
-    format!("attach {}", port.clock.map_or("-".into(), |clock| clock.to_string()))
+    format!("attach {}", number_of(port.clock))
 }
 
 /// What is said of the trees that the file TREES lists, into the file FOUND: integration/trees compares it with what another reader says.
@@ -702,7 +948,11 @@ fn trees_of_a_list() {
         let tree = std::fs::read(name).unwrap();
         let console = read_device_tree(&tree, ByteOrder::Little)
             .map_or("-".into(), |port| format!("{} {}", line_of(&port), start_of(port)));
-        found += &format!("{name}: console {console}\n");
+        found += &format!("{name}: console {console}");
+        for port in tree_ports(&tree, ByteOrder::Little) {
+            found += &format!(", port {}", wired(&port.unwrap()));
+        }
+        found += "\n";
     }
     std::fs::write(named("FOUND"), found).unwrap();
 }
@@ -755,9 +1005,10 @@ fn no_bytes_panic() {
     dbg2.extend(device(0x8000, 3, [0; 12]));
     dbg2.extend(device(0x8000, 0, [1, 8, 0, 0, 0xf8, 3, 0, 0, 0, 0, 0, 0]));
     let tables = [spcr_of_a_pc(), table(b"DBG2", 0, &dbg2)];
-    let options: [&[u8]; 3] = [
+    let options: [&[u8]; 4] = [
         b"uart8250,mmio32be,0xfe215040,115200n8,24000000",
         b"uart,io,0x3f8",
+        b"ns16550a,0xfe201000,9600e7r",
         b"ttyS3,115200n8",
     ];
     let mut found = 0_u32;
@@ -771,8 +1022,8 @@ fn no_bytes_panic() {
         }
         for option in options {
             let bytes = damaged(option, &mut numbers);
-            found += u32::from(read_earlycon(&bytes).is_ok());
-            found += u32::from(read_console(&bytes).is_ok());
+            found += u32::from(read_earlycon(&bytes, ByteOrder::Big).is_ok());
+            found += u32::from(read_console(&bytes, ByteOrder::Big).is_ok());
         }
         let header = damaged(&pci_serial(), &mut numbers);
         found += u32::from(read_pci(&header, numbers.below(5) as u8).is_ok());

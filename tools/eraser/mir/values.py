@@ -92,7 +92,11 @@ OF_MIR = {
 }
 
 
-def of_mir(translation: Translation, by_hand: Mapping[str, tuple[str, str]] | None = None) -> str:
+# How a value is shown and how it is made; None is as any other.
+ByHand = Mapping[str, tuple[str, str | None]]
+
+
+def of_mir(translation: Translation, by_hand: ByHand | None = None) -> str:
     """The text for all types of the translated MIR. What a reference points to is shown, and never made. `by_hand` has more types as OF_MIR has
     them."""
     names, out = set[str](), list[str]()
@@ -112,10 +116,10 @@ LIST = (
 )
 
 
-def of_shape(translation: Translation, name: str, by_hand: Mapping[str, tuple[str, str]]) -> str:
+def of_shape(translation: Translation, name: str, by_hand: ByHand) -> str:
     of, (kind, parts) = translation.shapes[name]
     mine = by_hand.get(of[1]) if of[0] == "Named" else None
-    if mine:
+    if mine and mine[1] is not None:
         show, make = mine[0], mine[1].replace("{rest}", translation.rest(of))
         if of[2] and of[2][-1][0] == "Num":
             make = make.replace("{number}", str(of[2][-1][1]))
@@ -141,6 +145,7 @@ def of_shape(translation: Translation, name: str, by_hand: Mapping[str, tuple[st
             makes.append(f"{tag} => {name} {{ v{tag}: {name}v{tag} {{ f0: {tag}{fields}{translation.rest(of, tag)} }} }},")
         show = f"out.push(self.v0.f0 as u64); match self.v0.f0 {{ {' '.join(shows)} _ => panic!(\"no variant\") }}"
         make = f"match choices.pick({len(makes)}) {{ {' '.join(makes)} _ => panic!() }}"
+    show = mine[0] if mine else show
     return (
         f"impl Value for {name} {{ fn show(&self, out: &mut Vec<u64>) {{ unsafe {{ {show} }} }} "
         f"fn make(choices: &mut Choices) -> Self {{ {make} }} }}"

@@ -61,6 +61,8 @@ fn device_at(table: &[u8], at: usize) -> Result<Option<PortDescription>, TableEr
         layout: registers.layout,
         clock: None,
         baud_rate: None,
+        frame: None,
+        has_flow_control: false,
         interrupt: None,
     }))
 }

@@ -25,6 +25,8 @@ const GLOBAL_INTERRUPT: usize = 54;
 
 const BAUD_RATE: usize = 58;
 
+const FLOW_CONTROL: usize = 61;
+
 const CLOCK: usize = 76;
 
 const PRECISE_BAUD_RATE: usize = 80;
@@ -45,6 +47,9 @@ const HAS_PRECISE_BAUD_RATE: u8 = 4;
 const IS_ISA: u8 = 0x01;
 
 const IS_GLOBAL: u8 = 0x1e;
+
+// The bit of the flow control for RTS and CTS.
+const BY_RTS: u8 = 0x02;
 
 // Returns whether a port has the interface of a 16550: 0 is a 16550, 1 one that some debuggers
 // know, in the first revision a 16450, and 0x12 one whose layout the address says.
@@ -173,6 +178,9 @@ pub fn read_spcr(bytes: &[u8]) -> Result<PortDescription, TableError>
         layout: registers.layout,
         clock: clock_of(table),
         baud_rate,
+        // The table knows no other parity than none, and says no number of data bits.
+        frame: None,
+        has_flow_control: table[FLOW_CONTROL] & BY_RTS != 0,
         interrupt: interrupt_of(table),
     })
 }

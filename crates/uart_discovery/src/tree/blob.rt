@@ -1,6 +1,8 @@
 //! The blob: its header, and the tokens of its structure.
-ghost use Rattle.std.specs.Prelude.{◌≡◌, IfOk, IfSome};
-ghost use Rattle.uart_discovery.specs.Tree.{be32, IsBlob};
+ghost use Rattle.std.specs.List.{before_first};
+ghost use Rattle.std.specs.Prelude.{◌≡◌, ◌+◌, ◌==◌, IfOk, IfSome};
+ghost use Rattle.uart_discovery.specs.Tree.{be32, IsBlob, text_of, aligned, token_of, part_of};
+ghost use Rattle.uart_discovery.specs.Tree.{structure_of, strings_of};
 
 use crate::errors::TreeError;
 
@@ -80,29 +82,41 @@ pub(crate) fn be32(bytes: &[u8], at: usize) -> Option<u32>
 }
 
 // Returns the text that ends with a byte 0, without that.
-pub(crate) fn text_at(bytes: &[u8], at: usize) -> Result<&[u8], TreeError> {
+pub(crate) fn text_at(bytes: &[u8], at: usize) -> Result<&[u8], TreeError>
+    ensures { IfOk result (λ text. text.now ≡ text_of bytes.now at) }
+{
     let rest = bytes.get(at..).ok_or(TreeError::Truncated)?;
-    let length = rest
-        .iter()
-        .position(|byte| *byte == 0)
-        .ok_or(TreeError::Truncated)?;
-    rest.get(..length).ok_or(TreeError::Truncated)
+    up_to_zero(rest).ok_or(TreeError::Truncated)
+}
+
+// Returns what stands before the first byte 0, if there is one.
+fn up_to_zero(bytes: &[u8]) -> Option<&[u8]>
+    ensures { IfSome result (λ text. text.now ≡ before_first (λ byte. byte == 0) bytes.now) }
+{
+    let length = bytes.iter().position(|byte| *byte == 0)?;
+    Some(bytes.split_at(length).0)
 }
 
 // Returns a sum that is a place in the structure.
-fn sum(at: usize, more: usize) -> Result<usize, TreeError> {
+fn sum(at: usize, more: usize) -> Result<usize, TreeError>
+    ensures { IfOk result (λ place. place ≡ at + more) }
+{
     at.checked_add(more).ok_or(TreeError::Truncated)
 }
 
 // Returns the first place that is a multiple of four, from this one on.
-fn aligned(at: usize) -> Result<usize, TreeError> {
+fn aligned(at: usize) -> Result<usize, TreeError>
+    ensures { IfOk result (λ place. place ≡ aligned at) }
+{
     Ok(sum(at, 3)? / 4 * 4)
 }
 
 impl<'a> Tree<'a> {
     // Returns the parts of a blob.
     pub(crate) fn new(blob: &'a [u8]) -> Result<Tree<'a>, TreeError>
-        ensures { IfOk result (λ tree. IsBlob blob.now) }
+        ensures blob { IfOk result (λ tree. IsBlob blob.now) }
+        ensures structure { IfOk result (λ tree. tree.structure.now ≡ structure_of blob.now) }
+        ensures strings { IfOk result (λ tree. tree.strings.now ≡ strings_of blob.now) }
     {
         match be32(blob, 0) {
             None => return Err(TreeError::Truncated),
@@ -122,7 +136,10 @@ impl<'a> Tree<'a> {
     }
 
     // Returns the token at a place.
-    pub(crate) fn token(self, at: usize) -> Result<Token, TreeError> {
+    #[tactic(auto, unfolding(crate::specs::Tree::token_of))]
+    pub(crate) fn token(self, at: usize) -> Result<Token, TreeError>
+        ensures { IfOk result (λ token. token ≡ token_of self.entry.structure.now at) }
+    {
         let kind = be32(self.structure, at).ok_or(TreeError::Truncated)?;
         let next = sum(at, 4)?;
         match kind {
@@ -163,7 +180,9 @@ fn field(bytes: &[u8], at: usize) -> Result<usize, TreeError>
 }
 
 // Returns a part of the blob, by where the header has its offset and its size.
-fn part(blob: &[u8], offset: usize, size: usize) -> Result<&[u8], TreeError> {
+fn part(blob: &[u8], offset: usize, size: usize) -> Result<&[u8], TreeError>
+    ensures { IfOk result (λ bytes. bytes.now ≡ part_of blob.now offset size) }
+{
     let from = field(blob, offset)?;
     let to = sum(from, field(blob, size)?)?;
     blob.get(from..to).ok_or(TreeError::Truncated)

@@ -2,25 +2,51 @@
 ghost use Rattle.std.specs.Prelude.{◌≡◌, ◌^◌, IfOk, IsTrue};
 ghost use Rattle.std.specs.Int.{is_power_of_two};
 ghost use Rattle.uart_spec.specs.Layout.{bytes_of};
-ghost use Rattle.uart_discovery.specs.Tree.{IsBlob, IsInMemory};
+ghost use Rattle.uart_discovery.specs.Tree.{IsBlob, IsInMemory, is_16550, has_16550, is_port};
 
-use crate::command_line::rate_of;
+use crate::command_line::{LineOptions, options_of};
 use crate::errors::TreeError;
-use crate::port::{AddressSpace, Interrupt, PortDescription};
+use crate::port::{AddressSpace, PortDescription};
 use crate::tree::address::address_of;
 use crate::tree::blob::{Tree, be32, text_at};
-use crate::tree::node::{number, property};
+use crate::tree::interrupt::interrupt_of;
+use crate::tree::node::{node_with, number, property};
 use crate::tree::path::{Path, nodes_on};
 use uart_spec::{ByteOrder, RegisterLayout, RegisterWidth};
 
 // Returns whether a name in `compatible` is that of a port with the registers of a 16550.
-fn is_16550(name: &[u8]) -> bool {
-    match name {
-        b"ns16450" | b"ns16550" | b"ns16550a" | b"ns16750" | b"ns16850" => true,
-        b"snps,dw-apb-uart" | b"intel,xscale-uart" | b"mrvl,mmp-uart" => true,
-        b"nvidia,tegra20-uart" | b"nxp,lpc3220-uart" => true,
-        b"altr,16550-FIFO32" | b"altr,16550-FIFO64" | b"altr,16550-FIFO128" => true,
-        _ => false,
+#[tactic(auto, unfolding(crate::specs::Tree::is_16550))]
+fn is_16550(name: &[u8]) -> bool
+    ensures { result ≡ is_16550 name.now }
+{
+    if name == b"ns16450".as_slice() {
+        true
+    } else if name == b"ns16550".as_slice() {
+        true
+    } else if name == b"ns16550a".as_slice() {
+        true
+    } else if name == b"ns16750".as_slice() {
+        true
+    } else if name == b"ns16850".as_slice() {
+        true
+    } else if name == b"snps,dw-apb-uart".as_slice() {
+        true
+    } else if name == b"intel,xscale-uart".as_slice() {
+        true
+    } else if name == b"mrvl,mmp-uart".as_slice() {
+        true
+    } else if name == b"nvidia,tegra20-uart".as_slice() {
+        true
+    } else if name == b"nxp,lpc3220-uart".as_slice() {
+        true
+    } else if name == b"altr,16550-FIFO32".as_slice() {
+        true
+    } else if name == b"altr,16550-FIFO64".as_slice() {
+        true
+    } else if name == b"altr,16550-FIFO128".as_slice() {
+        true
+    } else {
+        false
     }
 }
 
@@ -83,22 +109,6 @@ fn layout_of(tree: Tree<'_>, node: usize, native: ByteOrder) -> Result<RegisterL
     })
 }
 
-// Returns the first cells of the interrupts of a node.
-fn interrupt_of(tree: Tree<'_>, node: usize) -> Result<Option<Interrupt>, TreeError> {
-    let Some(value) = property(tree, node, b"interrupts".as_slice())? else {
-        return Ok(None);
-    };
-    let mut cells = [0; 3];
-    let mut count = 0u8;
-    for cell in value.chunks_exact(4).take(3) {
-        if let Some(number) = be32(cell, 0) {
-            cells[usize::from(count) % 3] = number;
-            count = count.wrapping_add(1);
-        }
-    }
-    Ok(Some(Interrupt::Cells(cells, count)))
-}
-
 // Returns the number of a property of one cell. 0 says that nothing is known.
 fn positive(tree: Tree<'_>, node: usize, name: &[u8]) -> Result<Option<u32>, TreeError> {
     match number(tree, node, name)? {
@@ -107,22 +117,68 @@ fn positive(tree: Tree<'_>, node: usize, name: &[u8]) -> Result<Option<u32>, Tre
     }
 }
 
-// Checks that a node is a port with the registers of a 16550, and to be used.
-fn check_node(tree: Tree<'_>, node: usize) -> Result<(), TreeError> {
-    let compatible = property(tree, node, b"compatible".as_slice())?.ok_or(
-        TreeError::NotCompatible,
-    )?;
-    if !compatible.split(|byte| *byte == 0).any(is_16550) {
-        return Err(TreeError::NotCompatible);
+// Returns the frequency of the clock: the node's own, or that of its first clock, if that is fixed.
+fn clock_of(tree: Tree<'_>, node: usize) -> Result<Option<u32>, TreeError> {
+    let own = positive(tree, node, b"clock-frequency".as_slice())?;
+    if own.is_some() {
+        return Ok(own);
     }
+    let Some(clocks) = property(tree, node, b"clocks".as_slice())? else {
+        return Ok(None);
+    };
+    let Some(phandle) = be32(clocks, 0) else {
+        return Ok(None);
+    };
+    let Some(clock) = node_with(tree, phandle)? else {
+        return Ok(None);
+    };
+    match property(tree, clock, b"compatible".as_slice())? {
+        Some(b"fixed-clock\0") => positive(tree, clock, b"clock-frequency".as_slice()),
+        _ => Ok(None),
+    }
+}
+
+// Returns whether one of the names in `compatible` is that of a port with the registers of a 16550.
+fn has_16550(names: &[u8]) -> bool
+    ensures { result ≡ has_16550 names.now }
+{
+    names.split(|byte| *byte == 0).any(is_16550)
+}
+
+// Returns whether a node is a port with the registers of a 16550.
+pub(crate) fn is_port(tree: Tree<'_>, node: usize) -> Result<bool, TreeError>
+    ensures { IfOk result (λ answer.
+        answer ≡ is_port tree.entry.structure.now tree.entry.strings.now node) }
+{
+    match property(tree, node, b"compatible".as_slice())? {
+        None => Ok(false),
+        Some(names) => Ok(has_16550(names)),
+    }
+}
+
+// Checks that a node is to be used.
+fn check_used(tree: Tree<'_>, node: usize) -> Result<(), TreeError> {
     match property(tree, node, b"status".as_slice())? {
         None | Some(b"okay\0" | b"ok\0") => Ok(()),
         Some(_) => Err(TreeError::Disabled),
     }
 }
 
+// Checks that a node is a port with the registers of a 16550, and to be used.
+fn check_node(tree: Tree<'_>, node: usize) -> Result<(), TreeError> {
+    if is_port(tree, node)? {
+        check_used(tree, node)
+    } else {
+        Err(TreeError::NotCompatible)
+    }
+}
+
 // Returns the port of the node at the end of a path.
-fn port_at(tree: Tree<'_>, path: &Path, native: ByteOrder) -> Result<PortDescription, TreeError>
+pub(crate) fn port_at(
+    tree: Tree<'_>,
+    path: &Path,
+    native: ByteOrder,
+) -> Result<PortDescription, TreeError>
     ensures { IfOk result (λ port. IsInMemory port) }
 {
     let node = path.last()?;
@@ -135,9 +191,11 @@ fn port_at(tree: Tree<'_>, path: &Path, native: ByteOrder) -> Result<PortDescrip
         space: AddressSpace::Memory,
         base,
         layout: layout_of(tree, node, native)?,
-        clock: positive(tree, node, b"clock-frequency".as_slice())?,
+        clock: clock_of(tree, node)?,
         baud_rate: positive(tree, node, b"current-speed".as_slice())?,
-        interrupt: interrupt_of(tree, node)?,
+        frame: None,
+        has_flow_control: false,
+        interrupt: interrupt_of(tree, path)?,
     })
 }
 
@@ -167,9 +225,9 @@ fn console_path(tree: Tree<'_>) -> Result<&[u8], TreeError> {
 /// alias, as `serial0`.
 ///
 /// A name of the path may be without the address behind `@`. Addresses of one or two cells are
-/// followed to the processor through the `ranges` of each bus. `clocks` is not followed: the clock
-/// is what `clock-frequency` says. `native` is the order of the processor's bytes, for a node with
-/// `native-endian`.
+/// followed to the processor through the `ranges` of each bus. The clock is what `clock-frequency`
+/// says, or the first of `clocks`, if that is a `fixed-clock`. `native` is the order of the
+/// processor's bytes, for a node with `native-endian`.
 ///
 /// # Errors
 ///
@@ -197,7 +255,8 @@ pub fn read_tree_node(
 /// Returns the port that a device tree has for its console: that of `stdout-path` in `/chosen`, or
 /// of `linux,stdout-path`, as [`read_tree_node`] finds it.
 ///
-/// The baud rate behind the path, as in `serial0:115200n8`, has the place of that of the node.
+/// Behind the path may stand options, as in `serial0:115200n8`: those of `earlycon=`
+/// ([`read_earlycon`](crate::read_earlycon)). Their baud rate has the place of that of the node.
 ///
 /// # Errors
 ///
@@ -226,10 +285,17 @@ pub fn read_device_tree(blob: &[u8], native: ByteOrder) -> Result<PortDescriptio
     let options = parts.next().unwrap_or(&[]);
     let nodes = resolve(tree, path)?;
     let port = port_at(tree, &nodes, native)?;
-    match rate_of(options) {
-        Ok(None) => Ok(port),
-        Ok(rate) => Ok(PortDescription {
-            baud_rate: rate,
+    match options_of(options) {
+        Ok(
+            LineOptions {
+                baud_rate: None,
+                ..
+            },
+        ) => Ok(port),
+        Ok(said) => Ok(PortDescription {
+            baud_rate: said.baud_rate,
+            frame: said.frame,
+            has_flow_control: said.has_flow_control,
             ..port
         }),
         Err(cause) => Err(TreeError::Options(cause)),

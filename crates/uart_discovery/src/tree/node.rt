@@ -1,16 +1,23 @@
 //! The properties and the children of a node.
 //!
 //! A node is known by where its first property is in the structure.
+ghost use Rattle.std.specs.Prelude.{◌≡◌, IfOk, option_copied};
+ghost use Rattle.uart_discovery.specs.Tree.{property_of};
 
 use crate::errors::TreeError;
 use crate::tree::blob::{Token, Tree, be32, text_at};
 
 // Returns the value of a property of a node, if it has it. All properties come before the children.
+#[tactic(auto, using(crate::proofs::Tokens::tokens_step))]
 pub(crate) fn property<'a>(
     tree: Tree<'a>,
     node: usize,
     name: &[u8],
-) -> Result<Option<&'a [u8]>, TreeError> {
+) -> Result<Option<&'a [u8]>, TreeError>
+    ensures { IfOk result (λ found.
+        option_copied found
+        ≡ property_of tree.entry.structure.now tree.entry.strings.now node name.now) }
+{
     let mut at = node;
     // A token has four bytes at least.
     for _token in 0..tree.structure.len() / 4 {
@@ -43,6 +50,35 @@ pub(crate) fn number(tree: Tree<'_>, node: usize, name: &[u8]) -> Result<Option<
             _ => Err(TreeError::PropertySize),
         },
     }
+}
+
+// Returns the number by which other nodes name a node, if it has one. Old trees have another name
+// for it.
+pub(crate) fn phandle_of(tree: Tree<'_>, node: usize) -> Result<Option<u32>, TreeError> {
+    match number(tree, node, b"phandle".as_slice())? {
+        None => number(tree, node, b"linux,phandle".as_slice()),
+        found => Ok(found),
+    }
+}
+
+// Returns the node that others name by a number, if the tree has it.
+pub(crate) fn node_with(tree: Tree<'_>, phandle: u32) -> Result<Option<usize>, TreeError> {
+    let mut at = 0;
+    for _token in 0..tree.structure.len() / 4 {
+        match tree.token(at)? {
+            Token::Begin { next, .. } => {
+                if phandle_of(tree, next)? == Some(phandle) {
+                    return Ok(Some(next));
+                }
+                at = next;
+            }
+            Token::End { next } => at = next,
+            Token::Property { next, .. } => at = next,
+            Token::Nothing { next } => at = next,
+            Token::Finish => return Ok(None),
+        }
+    }
+    Ok(None)
 }
 
 // Returns whether a name of a path stands for a node: it is the node's, or that without the address

@@ -26,7 +26,8 @@ pub use acpi::spcr::read_spcr;
 pub use command_line::{read_console, read_earlycon};
 pub use errors::{OptionError, PciError, TableError, TableFault, TreeError};
 pub use pci::read_pci;
-pub use port::{AddressSpace, Interrupt, PortDescription};
+pub use port::{AddressSpace, Frame, Interrupt, PortDescription};
 pub use tree::console::{read_device_tree, read_tree_node};
+pub use tree::ports::{TreePort, read_tree_port};
 
 pub mod proved;

@@ -185,7 +185,7 @@ fn pin_of(header: &[u8]) -> Option<Interrupt> {
 /// # Examples
 ///
 /// ```
-/// # use facade::{discovery::*, native::backend::ByteOrder};
+/// # use facade::{discovery::*, native::backend::ByteOrder, spec::registers::{Parity, WordLength}};
 /// assert_eq!(read_pci(&[], 0), Err(PciError::TooShort));
 /// ```
 ///
@@ -234,6 +234,8 @@ pub fn read_pci(header: &[u8], port: u8) -> Result<PortDescription, PciError> {
         },
         clock: card.clock,
         baud_rate: None,
+        frame: None,
+        has_flow_control: false,
         interrupt: pin_of(header),
     })
 }

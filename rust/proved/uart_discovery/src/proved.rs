@@ -64,10 +64,12 @@ pub mod acpi {}
 ///   pub address : SaysAddress table 40 port.space port.base port.layout
 ///   pub clock : port.clock ≡ clock_of table
 ///   pub baud_rate : rate_of table ≡ Some port.baud_rate
+///   pub frame : port.frame ≡ None
+///   pub has_flow_control : port.has_flow_control ≡ has_flow_control table
 ///   pub interrupt : port.interrupt ≡ interrupt_of table
 /// ```
 ///
-/// It uses `is_16550`, `clock_of`, `rate_of`, `interrupt_of` of this file; `SaysAddress` of `crates/uart_discovery/specs/Acpi.antt`.
+/// It uses `is_16550`, `clock_of`, `rate_of`, `has_flow_control`, `interrupt_of` of this file; `SaysAddress` of `crates/uart_discovery/specs/Acpi.antt`.
 ///
 /// <span id="IsFault"></span>
 ///
@@ -85,7 +87,7 @@ pub mod acpi {}
 #[doc(alias("SPCR", "SaysPort", "IsFault"))]
 pub mod spcr {}
 
-/// What the options `earlycon=` and `console=` of a kernel's command line say.
+/// What the options `earlycon=` and `console=` of a kernel's command line say. In their text, with `[` and `]` around what may be left out, is: earlycon  NAME,\[ACCESS,\]0xADDRESS\[,OPTIONS\[,CLOCK\]\] console   ttyS0 to ttyS3\[,OPTIONS\], or as earlycon OPTIONS   RATE\[PARITY\[DATA BITS\[r\]\]\]
 ///
 /// From `crates/uart_discovery/specs/CommandLine.antt`.
 ///
@@ -96,25 +98,13 @@ pub mod spcr {}
 /// The port that the value of `earlycon=` says, or the first part that is wrong.
 ///
 /// ```text
-/// unfoldable pub earlycon_of : List ℕ → Result PortDescription OptionError
-/// earlycon_of text = do
+/// unfoldable pub earlycon_of : ByteOrder → List ℕ → Result PortDescription OptionError
+/// earlycon_of native text = do
 ///   named ← name_of (part text 0)
-///   placement ← access_of (part text 1)
-///   base ← base_of placement.space (part text 2)
-///   baud_rate ← rate_of (part text 3)
-///   clock ← clock_of (part text 4)
-///   done ← at_most 5 text
-///   Ok (record {
-///     space = placement.space;
-///     base = base;
-///     layout = placement.layout;
-///     clock = clock;
-///     baud_rate = baud_rate;
-///     interrupt = None;
-///   })
+///   behind_name native text
 /// ```
 ///
-/// It uses `name_of`, `part`, `access_of`, `base_of`, `rate_of`, `clock_of`, `at_most` of this file.
+/// It uses `name_of`, `part`, `behind_name` of this file.
 ///
 /// <span id="console_of"></span>
 ///
@@ -123,22 +113,11 @@ pub mod spcr {}
 /// The port that the value of `console=` says, or the first part that is wrong.
 ///
 /// ```text
-/// unfoldable pub console_of : List ℕ → Result PortDescription OptionError
-/// console_of text = do
-///   port ← standard_port (part text 0)
-///   baud_rate ← rate_of (part text 1)
-///   done ← at_most 2 text
-///   Ok (record {
-///     space = Ports;
-///     base = port.base;
-///     layout = (placed Ports Bits8 Little).layout;
-///     clock = Some 1843200;
-///     baud_rate = baud_rate;
-///     interrupt = Some (Isa port.line);
-///   })
+/// unfoldable pub console_of : ByteOrder → List ℕ → Result PortDescription OptionError
+/// console_of native text = console_at (standard_port (part text 0)) native text
 /// ```
 ///
-/// It uses `standard_port`, `part`, `rate_of`, `at_most`, `placed` of this file.
+/// It uses `console_at`, `standard_port`, `part` of this file.
 #[doc(alias("earlycon_of", "console_of"))]
 pub mod command_line {}
 
@@ -168,6 +147,8 @@ pub mod command_line {}
 ///   pub byte_order : found.layout.byte_order ≡ Little
 ///   pub clock : found.clock ≡ (card_in header).clock
 ///   pub baud_rate : found.baud_rate ≡ None
+///   pub frame : found.frame ≡ None
+///   pub has_flow_control : found.has_flow_control ≡ false
 ///   pub interrupt : found.interrupt ≡ pin_of header
 /// ```
 ///
@@ -225,7 +206,20 @@ pub mod pci {}
 /// abbrev pub IsInMemory : PortDescription → Type 0
 /// IsInMemory port = (port.space ≡ Memory) × IsTrue (is_power_of_two port.layout.stride)
 /// ```
-#[doc(alias("IsBlob", "IsInMemory"))]
+///
+/// <span id="ports_of"></span>
+///
+/// # `ports_of`
+///
+/// The same, of the bytes of a tree.
+///
+/// ```text
+/// abbrev pub ports_of : List ℕ → List ℕ
+/// ports_of bytes = ports_in (structure_of bytes) (strings_of bytes)
+/// ```
+///
+/// It uses `ports_in`, `structure_of`, `strings_of` of this file.
+#[doc(alias("IsBlob", "IsInMemory", "ports_of"))]
 pub mod tree {}
 
 /// The ACPI table DBG2, by the offsets of its fields.

@@ -126,12 +126,13 @@ pub fn header(choices: &mut Choices) -> Vec<u8> {
 }
 
 /// Words of command lines and of device trees.
-const WORDS: [&[u8]; 46] = [
+const WORDS: [&[u8]; 47] = [
     b"uart8250", b"uart", b"io", b"mmio", b"mmio16", b"mmio32", b"mmio32be", b"ttyS0", b"ttyS1", b"ttyS2", b"ttyS3", b"", b"n8", b"0x",
     b"#address-cells", b"#size-cells", b"ranges", b"reg", b"compatible", b"status", b"big-endian", b"native-endian", b"reg-shift",
     b"reg-io-width", b"reg-offset", b"interrupts", b"clock-frequency", b"current-speed", b"stdout-path", b"linux,stdout-path", b"serial0",
     b"chosen", b"aliases", b"ns16450", b"ns16550", b"ns16550a", b"ns16750", b"ns16850", b"snps,dw-apb-uart", b"intel,xscale-uart",
     b"mrvl,mmp-uart", b"nvidia,tegra20-uart", b"nxp,lpc3220-uart", b"altr,16550-FIFO32", b"altr,16550-FIFO64", b"altr,16550-FIFO128",
+    b"mmio32native",
 ];
 
 fn digits(choices: &mut Choices, of: &[u8], most: u64) -> Vec<u8> {
@@ -158,26 +159,43 @@ fn joined(choices: &mut Choices, parts: Vec<Vec<u8>>) -> Vec<u8> {
     spoiled(choices, text)
 }
 
+/// Returns what stands behind a baud rate.
+pub fn letters(choices: &mut Choices) -> Vec<u8> {
+    let whole = [choices.one_of(b"noem"), choices.one_of(b"456789"), choices.one_of(b"rrx"), b'r'];
+    whole[..choices.pick(5) as usize].to_vec()
+}
+
+/// Returns the options of a console.
+pub fn options(choices: &mut Choices) -> Vec<u8> {
+    let rate = choices.one_of(&[&b"9600"[..], b"115200", b"0", b"999999999", b"1000000000", b""]);
+    [rate, &letters(choices)].concat()
+}
+
 /// Returns the value of `earlycon=` or of `console=`.
 pub fn command_line(choices: &mut Choices) -> Vec<u8> {
     let rate = match choices.pick(3) {
         0 => Vec::new(),
-        1 => choices.one_of(&[&b"9600"[..], b"115200n8", b"57600n", b"0", b"999999999", b"1000000000"]).to_vec(),
+        1 => options(choices),
         _ => word(choices),
     };
     if choices.pick(3) == 0 {
         let name = choices.one_of(&WORDS[7..12]).to_vec();
         return joined(choices, std::vec![name, rate]);
     }
-    let name = choices.one_of(&WORDS[..2]).to_vec();
-    let access = choices.one_of(&WORDS[2..7]).to_vec();
+    let name = choices.one_of(&[&b"uart8250"[..], b"uart", b"ns16550a", b"ns16550"]).to_vec();
+    let access = choices.one_of(&[&b"io"[..], b"mmio", b"mmio16", b"mmio32", b"mmio32be", b"mmio32native"]).to_vec();
     let base = match choices.pick(3) {
         0 => choices.one_of(&[&b"0x3f8"[..], b"0xfff8", b"0xfff9", b"0x0", b"3f8", b"0xffffffffffffffff"]).to_vec(),
         _ => [&b"0x"[..], &digits(choices, b"0123456789abcdefABCDEF", 16)].concat(),
     };
     let clock = choices.one_of(&[&b"1843200"[..], b"24000000", b"0", b""]).to_vec();
     let count = choices.one_of(&[5, 5, 4, 3]);
-    joined(choices, [name, access, base, rate, clock].into_iter().take(count).collect())
+    let mut parts: Vec<Vec<u8>> = [name, access, base, rate, clock].into_iter().take(count).collect();
+    if choices.pick(3) == 0 {
+        // The address alone.
+        parts.remove(1);
+    }
+    joined(choices, parts)
 }
 
 /// A device tree that is written token by token.
@@ -240,7 +258,7 @@ impl Written {
     // One of four ports has all properties but the last one, in whose place may be what is none.
     fn port(&mut self, choices: &mut Choices) {
         self.lacks_nothing = choices.pick(4) == 0;
-        let name = choices.one_of(&WORDS[33..]);
+        let name = choices.one_of(&WORDS[33..46]);
         let compatible = if choices.pick(3) == 0 { [b"acme,uart\0", name, b"\0"].concat() } else { [name, b"\0"].concat() };
         self.property(choices, b"compatible", &compatible);
         if choices.pick(12) != 0 {
@@ -272,6 +290,35 @@ impl Written {
             let count = choices.pick(5) as usize;
             self.cells(choices, b"interrupts", &[7, 42, 2, 9][..count]);
         }
+        self.maybe(choices, b"interrupt-parent", &[1, 1, 5]);
+        if choices.pick(4) == 0 {
+            let count = choices.pick(7) as usize;
+            let parent = choices.one_of(&[1, 1, 5]);
+            self.cells(choices, b"interrupts-extended", &[parent, 7, 42, 2, 9, 3][..count]);
+        }
+        if choices.pick(2) == 0 {
+            let count = choices.pick(2) as usize;
+            let clock = choices.one_of(&[3, 3, 4, 5]);
+            self.cells(choices, b"clocks", &[clock][..count]);
+        }
+    }
+
+    // What other nodes name by a number: a controller of interrupts, and two clocks.
+    fn named(&mut self, choices: &mut Choices) {
+        let phandle = choices.one_of(&[&b"phandle"[..], b"phandle", b"linux,phandle"]);
+        self.begin(b"pic");
+        self.cells(choices, phandle, &[1]);
+        self.maybe(choices, b"#interrupt-cells", &[1, 2, 3, 5]);
+        self.word(2);
+        for (number, name) in [(3, &b"fixed-clock\0"[..]), (4, b"acme,clock\0")] {
+            self.begin(b"clock");
+            self.maybe(choices, phandle, &[number]);
+            if choices.pick(8) != 0 {
+                self.property(choices, b"compatible", name);
+            }
+            self.maybe(choices, b"clock-frequency", &[0, 24_000_000]);
+            self.word(2);
+        }
     }
 }
 
@@ -280,10 +327,16 @@ pub fn tree(choices: &mut Choices) -> (Vec<u8>, Vec<u8>) {
     let mut tree = Written::default();
     tree.begin(b"");
     tree.bus(choices);
+    tree.maybe(choices, b"interrupt-parent", &[1]);
     tree.begin(b"aliases");
     let path = choices.one_of(&[&b"/soc/serial@4500\0"[..], b"/soc/bus@1/serial\0", b"/none\0"]);
-    tree.property(choices, b"serial0", path);
+    let names = [&b"serial0"[..], b"serial0", b"serial12", b"serialx", b"ethernet0"];
+    for path in [path, choices.one_of(&[&b"/soc/serial@4500\0"[..], b"/soc/bus/serial\0", b"/\0"])] {
+        let name = choices.one_of(&names);
+        tree.property(choices, name, path);
+    }
     tree.word(2);
+    tree.named(choices);
     if choices.pick(8) != 0 {
         tree.begin(b"chosen");
         let serial = b"serial0\0".as_slice();
@@ -295,6 +348,10 @@ pub fn tree(choices: &mut Choices) -> (Vec<u8>, Vec<u8>) {
     tree.begin(b"soc");
     tree.bus(choices);
     ranges(choices, &mut tree);
+    if choices.pick(6) == 0 {
+        tree.maybe(choices, b"phandle", &[6]);
+        tree.cells(choices, b"#interrupt-cells", &[1]);
+    }
     if choices.pick(2) == 0 {
         tree.begin(b"bus@1");
         tree.bus(choices);

@@ -55,6 +55,8 @@ fn device_at(table: &[u8], at: usize) -> Result<Option<PortDescription>, TableEr
         layout: registers.layout,
         clock: None,
         baud_rate: None,
+        frame: None,
+        has_flow_control: false,
         interrupt: None,
     }))
 }
@@ -71,7 +73,7 @@ fn device_at(table: &[u8], at: usize) -> Result<Option<PortDescription>, TableEr
 /// # Examples
 ///
 /// ```
-/// # use facade::{discovery::*, native::backend::ByteOrder};
+/// # use facade::{discovery::*, native::backend::ByteOrder, spec::registers::{Parity, WordLength}};
 /// let error = TableError { offset: 0, fault: TableFault::TooShort };
 /// assert_eq!(read_dbg2(&[]), Err(error));
 /// ```

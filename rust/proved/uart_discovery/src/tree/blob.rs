@@ -78,11 +78,13 @@ pub(crate) fn be32(bytes: &[u8], at: usize) -> Option<u32> {
 // Returns the text that ends with a byte 0, without that.
 pub(crate) fn text_at(bytes: &[u8], at: usize) -> Result<&[u8], TreeError> {
     let rest = bytes.get(at..).ok_or(TreeError::Truncated)?;
-    let length = rest
-        .iter()
-        .position(|byte| *byte == 0)
-        .ok_or(TreeError::Truncated)?;
-    rest.get(..length).ok_or(TreeError::Truncated)
+    up_to_zero(rest).ok_or(TreeError::Truncated)
+}
+
+// Returns what stands before the first byte 0, if there is one.
+fn up_to_zero(bytes: &[u8]) -> Option<&[u8]> {
+    let length = bytes.iter().position(|byte| *byte == 0)?;
+    Some(bytes.split_at(length).0)
 }
 
 // Returns a sum that is a place in the structure.

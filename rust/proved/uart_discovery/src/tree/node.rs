@@ -45,6 +45,35 @@ pub(crate) fn number(tree: Tree<'_>, node: usize, name: &[u8]) -> Result<Option<
     }
 }
 
+// Returns the number by which other nodes name a node, if it has one. Old trees have another name
+// for it.
+pub(crate) fn phandle_of(tree: Tree<'_>, node: usize) -> Result<Option<u32>, TreeError> {
+    match number(tree, node, b"phandle".as_slice())? {
+        None => number(tree, node, b"linux,phandle".as_slice()),
+        found => Ok(found),
+    }
+}
+
+// Returns the node that others name by a number, if the tree has it.
+pub(crate) fn node_with(tree: Tree<'_>, phandle: u32) -> Result<Option<usize>, TreeError> {
+    let mut at = 0;
+    for _token in 0..tree.structure.len() / 4 {
+        match tree.token(at)? {
+            Token::Begin { next, .. } => {
+                if phandle_of(tree, next)? == Some(phandle) {
+                    return Ok(Some(next));
+                }
+                at = next;
+            }
+            Token::End { next } => at = next,
+            Token::Property { next, .. } => at = next,
+            Token::Nothing { next } => at = next,
+            Token::Finish => return Ok(None),
+        }
+    }
+    Ok(None)
+}
+
 // Returns whether a name of a path stands for a node: it is the node's, or that without the address
 // behind `@`.
 fn is_named(wanted: &[u8], name: &[u8]) -> bool {

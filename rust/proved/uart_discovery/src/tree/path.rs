@@ -27,7 +27,22 @@ impl Path {
             .checked_sub(1)
             .and_then(|last| last.checked_sub(steps))
             .ok_or(TreeError::NoNode)?;
-        self.nodes.get(index).copied().ok_or(TreeError::NoNode)
+        self.nodes.get(index).copied().ok_or(TreeError::Depth)
+    }
+
+    // Goes into a node. Of one that is too deep only the depth is kept.
+    pub(crate) fn enter(&mut self, node: usize) -> Result<(), TreeError> {
+        if self.count < MOST_NODES {
+            self.nodes[self.count] = node;
+        }
+        self.count = self.count.checked_add(1).ok_or(TreeError::Depth)?;
+        Ok(())
+    }
+
+    // Goes back to the node above.
+    pub(crate) fn leave(&mut self) -> Result<(), TreeError> {
+        self.count = self.count.checked_sub(1).ok_or(TreeError::Truncated)?;
+        Ok(())
     }
 }
 
