@@ -1,8 +1,9 @@
 -- How the size of the FIFOs is found, and how FIFOs of 64 are turned on, access by access.
 use Rattle.std.specs.Prelude.{◌≡◌, ◌<◌, ◌+◌, ◌⊎◌, ℕ, Bool, true, false, List, [], ◌∷◌, Result, Ok, Err, Option, None}
-use Rattle.std.specs.Prelude.{Some, unwrap_or}
+use Rattle.std.specs.Prelude.{◌&&◌, not, Some, unwrap_or}
 use Rattle.std.specs.Int.RustNames.{bit_or}
 use Rattle.bitflags.specs.Sets.{without}
+use Rattle.uart_spec.specs.Bits.{has}
 use Rattle.uart_spec.specs.FifoSize.{characters, IsLargestUpTo}
 use Rattle.uart_spec.specs.declared.setup.FifoSize.{FifoSize}
 use Rattle.uart_spec.specs.declared.setup.FifoSize.TheVariants.{TwoHundredFiftySix}
@@ -17,7 +18,7 @@ use Rattle.uart_spec.specs.declared.registers.offsets.TheConstants as offsets
 use Rattle.uart_spec.specs.declared.registers.line_status.TheConstants.LSR
 use Rattle.uart_spec.specs.declared.access.Access.{Access}
 use Rattle.uart_spec.specs.declared.access.Access.TheVariants.{Read, Write}
-use Rattle.uart_16550.specs.Grammar.{Language, Only, Then, Times, Asks}
+use Rattle.uart_16550.specs.Grammar.{Language, Only, Then, Times}
 use Rattle.uart_16550.specs.Receive.{Miss}
 use Rattle.uart_16550.specs.Transmit.{WaitsFor}
 use Rattle.uart_16550.specs.Init.{SetsFifo}
@@ -97,11 +98,20 @@ enabling_writes lcr level =
     Write offsets.FCR (bit_or (level_bits level) FCR.FIFO_64_ENABLE.0) ∷
     Write offsets.LCR lcr ∷ Write offsets.FCR (level_bits level) ∷ []
 
+-- what ISR of a 16750 shows above the interrupt while its FIFOs are on and hold 64: bits 5 to 7, and not bit 4. None of
+-- FF, 7F and 0 is so, which a bus shows where nobody answers
+abbrev pub is_64_shown : ℕ → Bool
+is_64_shown isr =
+    has isr ISR.FIFOS_ENABLED.0 && (has isr ISR.FIFO_64_ENABLED.0 && not (has isr ISR.DMA_RX_END.0))
+
+-- one read of ISR, which shows this, or does not
+abbrev pub Shows64 : Bool → Language
+Shows64 on s l = (isr : ℕ) × (is_64_shown isr ≡ on) × (l ≡ Read offsets.ISR isr ∷ [])
+
 -- these writes, a read of ISR that shows whether the FIFOs hold 64 then, and IER as before
 abbrev pub Enabling : (lcr ier : ℕ) → FifoTriggerLevel → Bool → Language
 Enabling lcr ier level on =
-    Then (Only (enabling_writes lcr level))
-    (Then (Asks offsets.ISR ISR.FIFO_64_ENABLED.0 on) (Only (Write offsets.IER ier ∷ [])))
+    Then (Only (enabling_writes lcr level)) (Then (Shows64 on) (Only (Write offsets.IER ier ∷ [])))
 
 -- `enable_64_byte_fifos`: nothing is done if the FIFOs are off. Else LCR and IER are read, and there is a wait for an
 -- empty transmitter. If it reaches the limit, nothing is written, and the result is a stall; else FIFOs of 64 are asked

@@ -8,12 +8,11 @@ use Rattle.uart_spec.specs.declared.errors.FifoSizeError.{FifoSizeError}
 use Rattle.uart_spec.specs.declared.errors.FifoSizeError.TheVariants.{FifosOff, TooFew, Stalled}
 use Rattle.uart_spec.specs.declared.registers.fifo_trigger_level.FifoTriggerLevel.{FifoTriggerLevel}
 use Rattle.uart_spec.specs.declared.registers.fifo_trigger_level.FifoTriggerLevel.TheVariants.{One}
-use Rattle.uart_spec.specs.declared.registers.interrupt_status.TheConstants.ISR
 use Rattle.uart_spec.specs.declared.registers.line_status.TheConstants.LSR
 use Rattle.uart_spec.specs.declared.registers.offsets.TheConstants as offsets
 use Rattle.uart_spec.specs.declared.access.Access.{Access}
 use Rattle.uart_spec.specs.declared.access.Access.TheVariants.{Read, Write}
-use Rattle.uart_16550.specs.Grammar.{Language, Settings, Only, Then, Times, Asks}
+use Rattle.uart_16550.specs.Grammar.{Language, Settings, Only, Then, Times}
 use Rattle.uart_16550.specs.Receive.{Miss}
 use Rattle.uart_16550.specs.Transmit.{WaitsFor}
 use Rattle.uart_16550.specs.Init.{SetsFifo}
@@ -21,11 +20,11 @@ use Rattle.uart_16550.specs.Driver.{Fields, Saving, Next, settings_of}
 use Rattle.uart_16550.specs.Setup.{level_of}
 use Rattle.uart_16550.specs.Loopback.{test_byte, TakesOne, DrainsLoopback, EntersAt, Inside}
 use Rattle.uart_16550.specs.Sizing.{flood, Floods, TakesBack, Tells, Measures, SwitchesFifo, Sizes, SizesInLoopback, FindsFifoSize}
-use Rattle.uart_16550.specs.Sizing.{BeginsEnabling, enabling_writes, Enabling, Enables64}
+use Rattle.uart_16550.specs.Sizing.{BeginsEnabling, enabling_writes, Enabling, Enables64, Shows64, is_64_shown}
 use Rattle.uart_16550.proofs.Languages.{then_later, at_least_sixteen}
 use Rattle.uart_16550.proofs.determined.Parting.{SameOrPart, Determined, so, determined_so, determined_sym, determined_among}
 use Rattle.uart_16550.proofs.determined.Parting.{determined_then, determined_front, determined_none, determined_only, not_both}
-use Rattle.uart_16550.proofs.determined.Parting.{so_is, so_read, so_reads, asks_determined}
+use Rattle.uart_16550.proofs.determined.Parting.{so_is, so_read, so_reads}
 use Rattle.uart_16550.proofs.determined.Repeated.{Misses, times_same, times_all}
 use Rattle.uart_16550.proofs.determined.Receive.{miss_same}
 use Rattle.uart_16550.proofs.determined.Transmit.{waits_determined}
@@ -208,12 +207,16 @@ begins_enabling_determined s lcr ier lcr' ier' x y =
     determined_then (opening s lcr ier lcr' ier')
     (λ same. determined_so (λ t. (same.0, same.1, t)) (waits_determined s LSR.TRANSMITTER_EMPTY.0 x y))
 
+shows_64_determined : (s : Settings) (x y : Bool) → Determined (x ≡ y) (Shows64 x s) (Shows64 y s)
+shows_64_determined s x y = record {
+  at = λ l m p q. so_is p.2 q.2 (so (λ same. sym p.1 ∙ ap is_64_shown same ∙ q.1) so_reads);
+}
+
 enabling_determined : (s : Settings) (lcr ier lcr' ier' : ℕ) (level : FifoTriggerLevel) (x y : Bool) → lcr ≡ lcr' → ier ≡ ier' →
     Determined (x ≡ y) (Enabling lcr ier level x s) (Enabling lcr' ier' level y s)
 enabling_determined s lcr ier lcr' ier' level x y p q =
     determined_then (determined_only (ap (λ (n : ℕ). enabling_writes n level) p))
-    (λ t. determined_then {P = Asks offsets.ISR ISR.FIFO_64_ENABLED.0 x} {P' = Asks offsets.ISR ISR.FIFO_64_ENABLED.0 y}
-    (asks_determined offsets.ISR ISR.FIFO_64_ENABLED.0 x y)
+    (λ t. determined_then {P = Shows64 x} {P' = Shows64 y} (shows_64_determined s x y)
     (λ same. determined_so (λ u. same) (determined_only (ap (λ (n : ℕ). Write offsets.IER n ∷ []) q))))
 
 -- after the wait, and with it

@@ -1,6 +1,7 @@
 //! How FIFOs of 64 are turned on.
+ghost use Rattle.std.specs.Prelude.{◌≡◌};
 ghost use Rattle.uart_16550.specs.Driver.{Did};
-ghost use Rattle.uart_16550.specs.Sizing.{Enables64};
+ghost use Rattle.uart_16550.specs.Sizing.{Enables64, is_64_shown};
 
 use super::Uart16550;
 use super::setup::level_control_of;
@@ -9,14 +10,24 @@ use bitflags::Flags;
 use uart_spec::FifoSizeError;
 use uart_spec::registers::{FCR, ISR, LCR, LSR, offsets};
 
+// Returns whether this is what a 16750 shows while its FIFOs are on and hold 64.
+fn is_64_shown(isr: ISR) -> bool
+    ensures { result ≡ is_64_shown isr.0 }
+{
+    // A 16750 leaves bit 4 clear. Where nobody answers a bus mostly shows FF or 7F, which have it.
+    isr.fifo_enabled() && isr.contains(ISR::FIFO_64_ENABLED) && !isr.contains(ISR::DMA_RX_END)
+}
+
 impl<B: Backend> Uart16550<B> {
     /// Turns on the FIFOs of 64 characters of a 16750, which has FIFOs of 16 after power-on.
     /// Returns whether the FIFOs hold 64 then. It does not set the size of the driver:
     /// `set_fifo_size` does, as in the example.
     ///
-    /// Call it after `init`, and again after a reset of the chip. The answer is bit 5 of ISR after
-    /// a write of FCR without DLAB, as other calls make it. A chip that ends the mode there counts
-    /// as one of 16. On a chip that shows something else in this bit the answer is of no use.
+    /// Call it after `init`, and again after a reset of the chip. The answer is whether ISR shows
+    /// bits 5 to 7 set and bit 4 clear after a write of FCR without DLAB, as other calls make it. A
+    /// chip that ends the mode there counts as one of 16, and so does a bus where nobody answers:
+    /// FF and 7F are `false`, and 0 is `Stalled`. On a chip that shows something else in these bits
+    /// the answer is of no use.
     ///
     /// Nothing goes out on the line, but for what is in the transmitter already: the call waits
     /// until it is empty, at most `spin_limit` polls. A chip that switches empties its FIFOs, so
@@ -44,13 +55,16 @@ impl<B: Backend> Uart16550<B> {
     /// ```
     pub fn enable_64_byte_fifos(&mut self) -> Result<bool, FifoSizeError>
         // promise: a 16750 is told to hold 64 characters, once its transmitter is empty and with no
-        //   interrupt meanwhile. The answer is what stays after a write of FCR without DLAB; LCR,
-        //   IER and the size of the driver are as before
+        //   interrupt meanwhile. The answer is what stays after a write of FCR without DLAB, and
+        //   never `true` on a bus that always shows FF, 7F or 0; LCR, IER and the size of the
+        //   driver are as before
         // with: enable_64_byte_fifos, Enables64
-        // shown by: bit_5_of_isr_is_the_answer, the_frame_is_kept_with_one_stop_bit,
-        //   a_16750_holds_64, a_chip_that_leaves_64_again_holds_16,
-        //   a_chip_without_64_loses_nothing, a_16750_is_told_to_hold_64, bursts_of_64_go_out_whole
-        // refused: enable_64_byte_fifos_believes_a_chip_that_asks_for_no_dlab,
+        // shown by: the_upper_bits_of_isr_are_the_answer, a_bus_where_nobody_answers_holds_no_64,
+        //   the_frame_is_kept_with_one_stop_bit, a_16750_holds_64,
+        //   a_chip_that_leaves_64_again_holds_16, a_chip_without_64_loses_nothing,
+        //   a_16750_is_told_to_hold_64, bursts_of_64_go_out_whole
+        // refused: enable_64_byte_fifos_believes_a_bus_where_nobody_answers,
+        //   enable_64_byte_fifos_believes_a_chip_that_asks_for_no_dlab,
         //   enable_64_byte_fifos_does_not_wait, enable_64_byte_fifos_leaves_dlab_set,
         //   enable_64_byte_fifos_looks_too_early, enable_64_byte_fifos_leaves_interrupts_off
         ensures { Did B.step (Enables64 result) self.old self.new }
@@ -79,7 +93,7 @@ impl<B: Backend> Uart16550<B> {
         // lost. The answer is what stays.
         self.write_register(offsets::FCR, control.bits());
         // IER is still 0, so this read acknowledges no interrupt.
-        let on = self.isr().contains(ISR::FIFO_64_ENABLED);
+        let on = is_64_shown(self.isr());
         self.write_register(offsets::IER, ier.bits());
         Ok(on)
     }

@@ -86,7 +86,8 @@ impl<B: Backend> Uart16550<B> {
     /// Does not wait: reads MCR once, which changes nothing. A chip that is there does not show FF:
     /// a 16550 has no bits 5 to 7 in MCR, and on later chips all bits would be set only together
     /// with `LOOP_BACK`, which the driver leaves off. A bus that shows something else where nobody
-    /// answers, as 0, is not told from a chip.
+    /// answers is not told from a chip: with 0 each wait stalls, and with 7F bytes of 7F arrive.
+    /// `check_present`, which writes SPR, tells those too.
     ///
     /// # Examples
     ///

@@ -4,7 +4,8 @@ use Rattle.uart_run.proofs.Names.{◌≡◌, ◌≢◌, ◌&&◌, ◌+◌, ℕ, 
 use Rattle.uart_run.proofs.Names.{unwrap_or, arith, refl, sym, ◌∙◌, ap, subst, bit_and, bit_or, if◌then◌else◌, false≢true, common_steps}
 use Rattle.uart_run.proofs.Names.{and_assoc, without, has, has_any, FifoSize, Sixteen, SixtyFour, FifoSizeError, FifosOff, TooFew, Stalled}
 use Rattle.uart_run.proofs.Names.{FifoTriggerLevel, One, Path, Access, Read, Write, Settings, Only, Fields, fields, settings_of, level_bits}
-use Rattle.uart_run.proofs.Names.{BeginsEnabling, opened, enabling_writes, Enabling, Enables64, WaitsFor, inner_of, Chip, Uart16550A}
+use Rattle.uart_run.proofs.Names.{BeginsEnabling, opened, enabling_writes, Enabling, Enables64, is_64_shown, WaitsFor, inner_of, Chip}
+use Rattle.uart_run.proofs.Names.{Uart16550A, Option, Some, isr_of, all_shown}
 use Rattle.uart_run.proofs.Names.{ier_bits, ChipState, word_length, is_dlab_set, interrupt, is_64, is_same, after_write, trigger_level}
 use Rattle.uart_run.proofs.Names.{switch_size, is_switching, switch, set_fifo, set_trigger, control, with_size, empty_queues, switched_size}
 use Rattle.uart_run.proofs.Names.{reset_receiver, reset_transmitter, clear, MachineState, MachineStep, at_access, IsSound, IsSoundChip}
@@ -16,6 +17,8 @@ use Rattle.uart_run.proofs.Names.{State, machine_of, IsTimely, HasRoom, IsUnheld
 use Rattle.uart_run.proofs.Names.{IsStillAsBefore, EnablesOff}
 use Rattle.uart_spec.specs.declared.registers.fifo_control.TheConstants.FCR
 use Rattle.uart_spec.specs.declared.registers.interrupt_status.TheConstants.ISR
+use Rattle.uart_spec.specs.declared.registers.interrupt_type.InterruptType.{InterruptType}
+use Rattle.uart_spec.specs.declared.registers.interrupt_type.InterruptType.TheVariants.{ReceiverLineStatus}
 use Rattle.uart_spec.specs.declared.registers.line_control.TheConstants.LCR
 use Rattle.uart_spec.specs.declared.registers.line_status.TheConstants.LSR
 use Rattle.uart_spec.specs.declared.registers.modem_control.TheConstants.MCR
@@ -145,9 +148,9 @@ abbrev enabling_list : (lcr ier : ℕ) → FifoTriggerLevel → (isr : ℕ) → 
 enabling_list lcr ier level isr = enabling_writes lcr level ++ (Read offsets.ISR isr ∷ Write offsets.IER ier ∷ [])
 
 enabled_by : (lcr ier : ℕ) (level : FifoTriggerLevel) (on : Bool) (s : Settings) (l : List Access) → Enabling lcr ier level on s l →
-    (isr : ℕ) × (has isr ISR.FIFO_64_ENABLED.0 ≡ on) × (l ≡ enabling_list lcr ier level isr)
+    (isr : ℕ) × (is_64_shown isr ≡ on) × (l ≡ enabling_list lcr ier level isr)
 enabled_by lcr ier level on s l t =
-    (t.second.first.answer, t.second.first.shows, rw (t.whole, t.first.is, t.second.whole, t.second.first.is, t.second.second.is) refl)
+    (t.second.first.0, t.second.first.1, rw (t.whole, t.first.is, t.second.whole, t.second.first.2, t.second.second.is) refl)
 
 begins_blocks : (s : Settings) (lcr ier : ℕ) (empty : Bool) → Makes s (BeginsEnabling lcr ier empty) [] []
 begins_blocks s lcr ier empty l t =
@@ -270,6 +273,26 @@ told : (has : Bool) (size : FifoSize) → (has && is_64 (asked_size has size)) �
 told true size = refl
 told false size = refl
 
+-- ISR of the chip never shows bit 4
+bit_4 : (on holds_64 : Bool) (pending : Option InterruptType) → has (isr_of on holds_64 pending) ISR.DMA_RX_END.0 ≡ false
+bit_4 true true (Some ReceiverLineStatus) = refl
+bit_4 true false (Some ReceiverLineStatus) = refl
+bit_4 false _ (Some ReceiverLineStatus) = refl
+bit_4 _ _ _ = refl
+
+-- so it shows FIFOs of 64 exactly if they are on and hold 64
+shown_64 : (on holds_64 : Bool) (pending : Option InterruptType) → is_64_shown (isr_of on holds_64 pending) ≡ (on && holds_64)
+shown_64 on holds_64 pending =
+    let isr = isr_of on holds_64 pending in
+    ap (λ (b : Bool). b && (has isr ISR.FIFO_64_ENABLED.0 && not (has isr ISR.DMA_RX_END.0))) (all_shown on holds_64 pending)
+    ∙ (ap (λ (b : Bool). on && (has isr ISR.FIFO_64_ENABLED.0 && not b)) (bit_4 on holds_64 pending)
+    ∙ (ap (λ (b : Bool). on && (b && true)) (has_one 5 isr ∙ size_shown on holds_64 pending) ∙ together on holds_64))
+  where
+    together : (on holds_64 : Bool) → (on && ((on && holds_64) && true)) ≡ (on && holds_64)
+    together true true = refl
+    together true false = refl
+    together false holds_64 = refl
+
 module _ (lcr ier isr : ℕ) (level : FifoTriggerLevel) (m n : MachineState) (w : Waited lcr ier m)
     (path : Path MachineStep m (enabling_list lcr ier level isr) n) where
   abbrev m₁ : MachineState
@@ -347,7 +370,7 @@ module _ (lcr ier isr : ℕ) (level : FifoTriggerLevel) (m n : MachineState) (w 
       Write offsets.LCR lcr ∷ Write offsets.FCR (level_bits level) ∷ []) m₅
   to_look = (m₁, path.1, (m₂, path.2.1, (m₃, path.2.2.1, (m₄, path.2.2.2.1, (m₅, path.2.2.2.2.1, refl)))))
 
-  pub is_shown : has_any isr ISR.FIFO_64_ENABLED.0 ≡ switches
+  pub is_shown : is_64_shown isr ≡ switches
   is_shown =
       let l : List Access = Write offsets.IER 0 ∷ Write offsets.LCR (opened lcr) ∷ Write offsets.FCR (asking level) ∷
       Write offsets.LCR lcr ∷ Write offsets.FCR (level_bits level) ∷ [] in
@@ -359,8 +382,8 @@ module _ (lcr ier isr : ℕ) (level : FifoTriggerLevel) (m n : MachineState) (w 
       let size : c.receiver.size ≡ asked_size switches m.chip.transmitter.size = sound.sizes ∙ ((same_size-access m₅).transmitter
       ∙ (size_left later m₃ m₅ (inr (refl, (shut, tt))) (m₄, path.2.2.2.1, (m₅, path.2.2.2.2.1, refl)) ∙ size_asked)) in
       let switch : c.has_size_switch ≡ switches = switch_access m₅ ∙ switch_path l m m₅ to_look in
-      ap (λ (v : ℕ). has_any v ISR.FIFO_64_ENABLED.0) path.2.2.2.2.2.1.1
-      ∙ (size_shown c.fifo (shows_64 c) (interrupt c)
+      ap is_64_shown path.2.2.2.2.2.1.1
+      ∙ (shown_64 c.fifo (shows_64 c) (interrupt c)
       ∙ (ap (λ (b : Bool). b && shows_64 c) fifo
       ∙ (ap (λ (b : Bool). b && is_64 c.receiver.size) switch
       ∙ (ap (λ (z : FifoSize). switches && is_64 z) size ∙ told switches m.chip.transmitter.size))))
@@ -497,7 +520,7 @@ module _ (s t : State) (sound : IsSound (machine_of s)) (ready : Ready s) (is_on
       (sent_shown a.between.chip.transmitter (wait_empties v reads.back reads.between a.between reads.second reads.after)) p in
       let at = stands-after x m a.between a.front [] began.takes began.passed in
       record {
-        answers = sym e.1 ∙ (has_one 5 e.0 ∙ (is_shown lcr ier e.0 level a.between n w p ∙ switch));
+        answers = sym e.1 ∙ (is_shown lcr ier e.0 level a.between n w p ∙ switch);
         size =
             size ∙ (ap (λ (b : Bool). asked_size b a.between.chip.transmitter.size) switch
             ∙ ap (asked_size m.chip.has_size_switch) held);

@@ -7,14 +7,22 @@ use bitflags::Flags;
 use uart_spec::FifoSizeError;
 use uart_spec::registers::{FCR, ISR, LCR, LSR, offsets};
 
+// Returns whether this is what a 16750 shows while its FIFOs are on and hold 64.
+fn is_64_shown(isr: ISR) -> bool {
+    // A 16750 leaves bit 4 clear. Where nobody answers a bus mostly shows FF or 7F, which have it.
+    isr.fifo_enabled() && isr.contains(ISR::FIFO_64_ENABLED) && !isr.contains(ISR::DMA_RX_END)
+}
+
 impl<B: Backend> Uart16550<B> {
     /// Turns on the FIFOs of 64 characters of a 16750, which has FIFOs of 16 after power-on.
     /// Returns whether the FIFOs hold 64 then. It does not set the size of the driver:
     /// `set_fifo_size` does, as in the example.
     ///
-    /// Call it after `init`, and again after a reset of the chip. The answer is bit 5 of ISR after
-    /// a write of FCR without DLAB, as other calls make it. A chip that ends the mode there counts
-    /// as one of 16. On a chip that shows something else in this bit the answer is of no use.
+    /// Call it after `init`, and again after a reset of the chip. The answer is whether ISR shows
+    /// bits 5 to 7 set and bit 4 clear after a write of FCR without DLAB, as other calls make it. A
+    /// chip that ends the mode there counts as one of 16, and so does a bus where nobody answers:
+    /// FF and 7F are `false`, and 0 is `Stalled`. On a chip that shows something else in these bits
+    /// the answer is of no use.
     ///
     /// Nothing goes out on the line, but for what is in the transmitter already: the call waits
     /// until it is empty, at most `spin_limit` polls. A chip that switches empties its FIFOs, so
@@ -83,7 +91,7 @@ impl<B: Backend> Uart16550<B> {
         // lost. The answer is what stays.
         self.write_register(offsets::FCR, control.bits());
         // IER is still 0, so this read acknowledges no interrupt.
-        let on = self.isr().contains(ISR::FIFO_64_ENABLED);
+        let on = is_64_shown(self.isr());
         self.write_register(offsets::IER, ier.bits());
         Ok(on)
     }

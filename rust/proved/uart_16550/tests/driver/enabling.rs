@@ -1,7 +1,7 @@
 //! How FIFOs of 64 are turned on: the whole list of accesses for each answer and each refusal, and
 //! what each leaves behind.
 
-use crate::devices::{Listed, Recorder, RegisterFile, driver};
+use crate::devices::{Constant, Listed, Recorder, RegisterFile, driver};
 use crate::lists::{Accesses, list};
 use proved_uart_16550::{DriverState, Uart16550};
 use uart_spec::FifoSizeError::{self, FifosOff, Stalled};
@@ -52,17 +52,25 @@ fn row(
 }
 
 #[test]
-fn bit_5_of_isr_is_the_answer() {
-    for (isr, on) in [
-        (0xe1, true),
-        (0xc1, false),
-        (0x20, true),
-        (0xdf, false),
-        (0xff, true),
-    ] {
+fn the_upper_bits_of_isr_are_the_answer() {
+    for isr in 0..=u8::MAX {
+        let on = (0xe0..=0xef).contains(&isr);
         let waited = begun(0x03, 0x05).looks(2, 0x00).look(0x60);
         let all = asked(waited, [0x03, 0x83], [0xe1, 0xc1], isr, 0x05);
         assert_eq!(row(&new_state(), Ok(on), &all), new_state());
+    }
+}
+
+#[test]
+fn a_bus_where_nobody_answers_holds_no_64() {
+    for bus in 0..=u8::MAX {
+        let mut uart = Uart16550::from_state(Constant(bus), &new_state());
+        let enabled = uart.enable_64_byte_fifos();
+        // The transmitter is not empty for ever, or ISR does not show FIFOs of 64.
+        let is_empty = LSR::from_bits_retain(bus).contains(LSR::TRANSMITTER_EMPTY);
+        // A bus of E0 to EF looks as a 16750 does in each register that the call reads.
+        let looks_so = (0xe0..=0xef).contains(&bus);
+        assert_eq!(enabled, if is_empty { Ok(looks_so) } else { Err(Stalled) }, "{bus:02x}");
     }
 }
 

@@ -2,12 +2,12 @@ use Rattle.std.proofs.Common.{◌∙◌, ℕ, [], ap, refl, sym, bit_or, unwrap_
 use Rattle.uart_spec.specs.declared.config.Config.{Config}
 use Rattle.uart_spec.specs.declared.registers.fifo_control.TheConstants.FCR
 use Rattle.uart_spec.specs.declared.registers.fifo_trigger_level.FifoTriggerLevel.TheVariants.{One}
-use Rattle.uart_spec.specs.declared.registers.interrupt_status.TheConstants.ISR
 use Rattle.uart_spec.specs.declared.registers.line_control.TheConstants.LCR
 use Rattle.uart_spec.specs.declared.registers.offsets.TheConstants as offsets
 use Rattle.uart_16550.specs.Setup.{level_bits}
+use Rattle.uart_16550.specs.Sizing.{Shows64}
 use Rattle.uart_16550.proofs.Loopbacks.{made_value}
-use Rattle.uart_16550.proofs.Making.{made_then, made_only, made_asks}
+use Rattle.uart_16550.proofs.Making.{made_then, made_only, made_among}
 use Rattle.uart_16550.proofs.Doings.{did_made}
 use Rattle.uart_16550.proofs.driver.Uart16550.enable_64_byte_fifos.Goals as goal
 
@@ -32,7 +32,7 @@ returns g c =
     (made_value offsets.LCR _ _ opened c.write_register-2.ensures)) (made_value offsets.FCR _ _ asking c.write_register-3.ensures))
     (made_value offsets.LCR _ _ (c.bits-3.ensures tt) c.write_register-4.ensures))
     (made_value offsets.FCR _ _ (c.bits-4.ensures tt ∙ level) c.write_register-5.ensures) in
-    let asked = made_asks offsets.ISR _ ISR.FIFO_64_ENABLED.0 _ c.isr.ensures (sym (c.contains-on.ensures tt)) in
+    let asked = made_among {M = Shows64 _} (λ l t. (_, sym c.is_64_shown-on.ensures, t.is)) c.isr.ensures in
     let restored = made_value offsets.IER _ _ (c.bits-5.ensures tt) c.write_register-6.ensures in
     let all = did_made (made_then begun (made_then writes (made_then asked restored))) in
     record { list = all.list; path = all.path; does = (c.if-not-self.false, _, _, all.does) }
