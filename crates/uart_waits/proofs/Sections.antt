@@ -2,7 +2,7 @@
 use Rattle.std.proofs.Common.{◌≡◌, ◌+◌, Bool, true, false, [], ◌∷◌, Option, Some, None, refl, sym, ap, subst, arith}
 use Rattle.std.specs.Prelude.{if◌then◌else◌}
 use Rattle.uart_waits.specs.declared.awaited.Awaited.{Awaited}
-use Rattle.uart_waits.specs.declared.awaited.Awaited.TheVariants.{ReceivedByte, TransmitRoom, EmptyTransmitRing}
+use Rattle.uart_waits.specs.declared.awaited.Awaited.TheVariants.{ReceivedByte}
 use Rattle.uart_waits.specs.declared.awaited.Seen.{Seen}
 use Rattle.uart_waits.specs.declared.waits.Waiter.{Waiter}
 use Rattle.uart_waits.specs.declared.waits.Waits.{Waits}

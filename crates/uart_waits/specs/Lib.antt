@@ -1,3 +1,4 @@
 pub mod Awaited
 pub mod Waits
 pub mod Laws
+pub mod Occupancy

@@ -2,6 +2,7 @@
 //!
 //! The contract of each function is a law that callers can cite. The functions do nothing.
 ghost use Rattle.uart_waits.specs.Laws.{EachIsWokenOnce, NobodyIsForgotten};
+ghost use Rattle.uart_waits.specs.Occupancy.{LeavesNoneBehind, MarksTell};
 
 /// No wake is lost. In whatever order sections come, and whatever each of them sees of the rings:
 /// each task that came is handed out to be woken, once, or it still waits. And who still waits
@@ -14,4 +15,18 @@ pub fn no_wake_is_lost<W>()
     // shown by: three_tasks_and_a_handler_lose_no_wake, two_readers_and_a_handler_lose_no_wake
     ensures once { EachIsWokenOnce W }
     ensures none_forgotten { NobodyIsForgotten W }
+{}
+
+/// No handler is forgotten. In whatever order handlers and other callers come and are done: who
+/// leaves the rings free has served each handler that was refused meanwhile.
+pub fn no_handler_is_forgotten()
+    // promise: a handler that comes while shared rings are in use is not forgotten: who uses them
+    //   serves what it came for before leaving
+    // with: no_handler_is_forgotten.marks, no_handler_is_forgotten.none_behind
+    // shown by: a_handler_in_the_middle_of_a_call_is_served_at_its_end,
+    //   handlers_of_another_thread_are_all_served
+    // a mark is there exactly if a handler came for which nobody has begun to serve
+    ensures marks { MarksTell }
+    // so who is done and leaves the rings free leaves none behind
+    ensures none_behind { LeavesNoneBehind }
 {}

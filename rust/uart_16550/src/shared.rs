@@ -16,18 +16,20 @@ mod exclusive;
 #[cfg(feature = "embedded-io")]
 mod io;
 mod line;
+mod rings;
 
-pub use blocking::{Blocking, Wait};
-pub use line::SharedLine;
+pub use blocking::{Blocking, BlockingRings, Wait};
+pub use line::{PortOfLine, SharedLine};
 pub use uart_waits::{SharedError, StartError, Unfinished};
 
 use crate::native::Uart16550;
 use crate::native::backend::Backend;
-use crate::ring::{Global, Uart16550Ring};
+use crate::ring::{Global, Handled, MAX_INTERRUPTS, Uart16550Ring};
 use core::fmt;
 use core::task::Waker;
 use exclusive::Exclusive;
-use uart_waits::{Awaited, Seen, Waits};
+use rings::{Rings, Turns};
+use uart_waits::{Due, Seen, Waits};
 
 /// How a kernel keeps everybody else out: its lock that masks interrupts.
 ///
@@ -202,11 +204,10 @@ impl<S: CriticalSection, B: Backend> Shared<S, B> {
         let ring = Uart16550Ring::new(global, uart, tx_capacity, rx_capacity)
             .map_err(|(uart, cause)| (uart, StartError::NoRings(cause)))?;
         let mut made = Some(ring);
-        let entered = self.in_section(|port| {
+        let entered = self.in_turn(false, |port| {
             if port.ring.is_none() {
                 port.ring = made.take();
             }
-            Ok(())
         });
         match (made, entered) {
             (None, _) => Ok(()),
@@ -238,7 +239,7 @@ impl<S: CriticalSection, B: Backend> Shared<S, B> {
     /// # Ok(()) }
     /// ```
     pub fn stop(&self) -> Result<Uart16550Ring<B>, SharedError> {
-        self.in_section(|port| port.ring.take().ok_or(SharedError::NoRings))
+        self.in_turn(false, |port| port.ring.take().ok_or(SharedError::NoRings))?
     }
 
     /// Calls the function with the rings, in the kernel's section. Then wakes the task that waits for what is now there.
@@ -266,63 +267,81 @@ impl<S: CriticalSection, B: Backend> Shared<S, B> {
     /// # Ok(()) }
     /// ```
     pub fn with<R>(&self, call: impl FnOnce(&mut Uart16550Ring<B>) -> R) -> Result<R, SharedError> {
-        self.in_section(|port| port.ring.as_mut().map(call).ok_or(SharedError::NoRings))
+        self.with_rings(call)
     }
 
-    // Whether a call would not wait for this. It would not if it is refused, either.
-    fn ends_wait(&self, awaited: Awaited) -> bool {
-        self.with(|ring| Seen::of(ring).ends_wait(awaited))
-            .unwrap_or(true)
-    }
-
-    // Looks for what is awaited. It is an error if that is not there and does not come.
-    fn look<R>(
-        &self,
-        look: impl FnOnce(&mut Uart16550Ring<B>) -> Option<R>,
-    ) -> Result<Option<R>, SharedError> {
-        self.with(|ring| match (look(ring), ring.stuck()) {
-            (None, Some(cause)) => Err(SharedError::Stuck(cause)),
-            (found, _) => Ok(found),
+    /// Handles the chip's interrupt, as [`handle`](Uart16550Ring::handle) of the rings does, in the kernel's section. Then wakes the
+    /// task that waits for what is now there.
+    ///
+    /// This is the call for the handler. If it comes in the middle of another call, as it can where the section does not mask the
+    /// interrupt, it is refused, and that call handles the interrupt at its end: no edge is forgotten. That is proved
+    /// (`no_handler_is_forgotten` of the crate `uart_waits`).
+    ///
+    /// # Errors
+    ///
+    /// - `NoRings` if there are none.
+    /// - `InUse` if the call came in the middle of another one, which handles the interrupt.
+    ///
+    /// # Examples
+    ///
+    /// ```
+    /// # include!(concat!(env!("CARGO_MANIFEST_DIR"), "/tests/common/shared.rs"));
+    /// # use uart_16550::ring::MAX_INTERRUPTS;
+    /// # use uart_16550::shared::SharedError;
+    /// # fn main() -> Result<(), SharedError> {
+    /// # start();
+    /// let handled = PORT.handle(4 * MAX_INTERRUPTS)?;
+    /// # assert_eq!(handled.served, 0);
+    /// # Ok(()) }
+    /// ```
+    pub fn handle(&self, limit: usize) -> Result<Handled, SharedError> {
+        self.in_turn(true, |port| {
+            let ring = port.ring.as_mut().ok_or(SharedError::NoRings)?;
+            Ok(ring.handle(limit))
         })?
     }
 
-    // Whether the transmit ring and the chip are empty.
-    fn is_sent(&self) -> Result<bool, SharedError> {
-        self.with(|ring| ring.transmit_len() == 0 && ring.inner_mut().is_idle())
-    }
-
-    // Calls the function in the section, and then wakes the tasks whose turn it is.
-    //
-    // They are woken after the section: what a waker does is its executor's, may take long, and may come back here.
+    // Calls the function in the section, serves what handlers came for meanwhile, and then wakes the tasks whose turn it is.
     #[inline]
-    fn in_section<R>(
-        &self,
-        call: impl FnOnce(&mut Port<B>) -> Result<R, SharedError>,
-    ) -> Result<R, SharedError> {
+    fn in_turn<R>(&self, is_handler: bool, call: impl FnOnce(&mut Port<B>) -> R) -> Result<R, SharedError> {
+        let mut turns = Turns::NONE;
         let entered = self.section.run(|| {
-            self.port.try_with(|port| {
-                let result = call(port);
-                let seen = port.ring.as_ref().map(Seen::of);
-                (result, port.waits.take_due(seen))
-            })
+            let mut entered = self.port.let_in(is_handler)?;
+            let result = call(entered.value());
+            turns.add(entered.value().take_due());
+            while let Err(owed) = entered.leave() {
+                entered = owed;
+                entered.value().serve();
+                turns.add(entered.value().take_due());
+            }
+            Some(result)
         });
-        let (result, due) = entered.ok_or(SharedError::InUse)?;
-        let _second = WakesAtTheEnd(due.transmit.map(|waiter| waiter.waker));
-        if let Some(first) = due.receive {
-            first.waker.wake();
-        }
-        result
+        rings::wake([&mut turns]);
+        entered.ok_or(SharedError::InUse)
     }
 }
 
-// A task that is woken when this goes: behind the other one, or while the panic of that one's waker passes. Nobody else knows of the task
-// any more, so it would wait for ever.
-struct WakesAtTheEnd(Option<Waker>);
+impl<B: Backend> Port<B> {
+    fn take_due(&mut self) -> Due<Waker> {
+        let seen = self.ring.as_ref().map(Seen::of);
+        self.waits.take_due(seen)
+    }
 
-impl Drop for WakesAtTheEnd {
-    fn drop(&mut self) {
-        if let Some(waker) = self.0.take() {
-            waker.wake();
+    // Serves what a handler came for. What is left then makes the line fall and rise, and so comes again.
+    fn serve(&mut self) {
+        if let Some(ring) = &mut self.ring {
+            ring.handle(MAX_INTERRUPTS);
         }
+    }
+}
+
+impl<S: CriticalSection, B: Backend> Rings for Shared<S, B> {
+    type Backend = B;
+
+    fn in_section<R>(
+        &self,
+        call: impl FnOnce(Option<&mut Uart16550Ring<B>>, &mut Waits<Waker>) -> R,
+    ) -> Result<R, SharedError> {
+        self.in_turn(false, |port| call(port.ring.as_mut(), &mut port.waits))
     }
 }

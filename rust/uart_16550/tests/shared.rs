@@ -195,6 +195,133 @@ fn a_section_that_keeps_nobody_out_makes_refusals_and_no_races() {
     assert!(refused.iter().all(|count| *count <= 10_000));
 }
 
+/// The handler that is called at an edge, which does not come again.
+fn edge<S: CriticalSection>(port: &Shared<S, Cable>) -> Result<usize, SharedError> {
+    port.handle(MAX_INTERRUPTS).map(|handled| handled.served)
+}
+
+#[test]
+fn a_handler_in_the_middle_of_a_call_is_served_at_its_end() {
+    let (port, cable) = (Shared::new(Alone), Cable::default());
+    start(&port, &cable);
+    assert_eq!(edge(&port), Ok(0));
+    let refused = port.with(|ring| {
+        cable.chip().received.extend(b"abc");
+        let refused = edge(&port);
+        // It is served when the call is done, and not in its middle.
+        assert_eq!(ring.receive_len(), 0);
+        refused
+    });
+    assert_eq!(refused, Ok(Err(SharedError::InUse)));
+    assert_eq!(port.with(|ring| ring.receive_len()), Ok(3));
+    // Another call that is refused leaves no mark.
+    let within = port.with(|_ring| {
+        cable.chip().received.extend(b"d");
+        port.with(|ring| ring.receive_len())
+    });
+    assert_eq!(within, Ok(Err(SharedError::InUse)));
+    assert_eq!(port.with(|ring| ring.receive_len()), Ok(3));
+    assert_eq!(edge(&port), Ok(1));
+    assert_eq!(port.with(|ring| ring.receive_len()), Ok(4));
+}
+
+#[test]
+fn a_task_is_woken_by_a_handler_that_was_refused() {
+    let (port, cable, pair) = (Shared::new(Alone), Cable::default(), Pair::new());
+    start(&port, &cable);
+    let [mut reader, _] = pair.contexts();
+    assert!(port.poll_read(&mut reader, &mut [0]).is_pending());
+    let refused = port.with(|_ring| {
+        cable.chip().received.extend(b"a");
+        edge(&port)
+    });
+    assert_eq!(refused, Ok(Err(SharedError::InUse)));
+    assert_eq!(pair.woken(), [1, 0]);
+}
+
+#[test]
+fn a_call_that_unwinds_leaves_the_mark_to_the_next_one() {
+    let (port, cable) = (Shared::new(Alone), Cable::default());
+    start(&port, &cable);
+    let call = std::panic::AssertUnwindSafe(|| {
+        port.with(|_ring| {
+            cable.chip().received.extend(b"a");
+            assert_eq!(edge(&port), Err(SharedError::InUse));
+            panic!("on purpose");
+        })
+    });
+    assert!(std::panic::catch_unwind(call).is_err());
+    assert_eq!(port.with(|ring| ring.receive_len()), Ok(0));
+    assert_eq!(port.with(|ring| ring.receive_len()), Ok(1));
+}
+
+/// Whether this becomes true. The limit is for one step, which takes a slow machine milliseconds.
+fn comes(is_there: impl Fn() -> bool) -> bool {
+    const LIMIT: Duration = Duration::from_secs(60);
+    let begin = Instant::now();
+    while !is_there() {
+        if begin.elapsed() > LIMIT {
+            return false;
+        }
+        thread::yield_now();
+    }
+    true
+}
+
+#[test]
+fn handlers_of_another_thread_are_all_served() {
+    static PORT: Shared<Alone, Cable> = Shared::new(Alone);
+    static IS_IN_CALL: AtomicBool = AtomicBool::new(false);
+    static COME: AtomicUsize = AtomicUsize::new(0);
+    static TAKEN: AtomicUsize = AtomicUsize::new(0);
+    static IS_DONE: AtomicBool = AtomicBool::new(false);
+    const EDGES: usize = 200;
+    let cable = Cable::default();
+    start(&PORT, &cable);
+    let (edges, refused) = thread::scope(|scope| {
+        // It uses the rings, and never looks at the chip.
+        scope.spawn(|| {
+            while !IS_DONE.load(Ordering::SeqCst) {
+                let before = TAKEN.load(Ordering::SeqCst);
+                let taken = PORT.with(|ring| {
+                    IS_IN_CALL.store(true, Ordering::SeqCst);
+                    // Each second edge comes in the middle of this call, and the others come anywhere.
+                    if before % 2 == 0 {
+                        comes(|| {
+                            COME.load(Ordering::SeqCst) > before || IS_DONE.load(Ordering::SeqCst)
+                        });
+                    }
+                    IS_IN_CALL.store(false, Ordering::SeqCst);
+                    ring.take(&mut [0; CAPACITY])
+                });
+                TAKEN.fetch_add(taken.unwrap_or(0), Ordering::SeqCst);
+                thread::yield_now();
+            }
+        });
+        // Each edge is of one byte, and comes once.
+        let mut refused = 0;
+        let mut is_served = |edge_number: usize| {
+            if edge_number % 2 == 0 && !comes(|| IS_IN_CALL.load(Ordering::SeqCst)) {
+                return false;
+            }
+            cable.chip().received.push_back(0);
+            refused += usize::from(edge(&PORT).is_err());
+            COME.fetch_add(1, Ordering::SeqCst);
+            comes(|| TAKEN.load(Ordering::SeqCst) > edge_number)
+        };
+        let edges = (0..EDGES)
+            .take_while(|edge_number| is_served(*edge_number))
+            .count();
+        IS_DONE.store(true, Ordering::SeqCst);
+        (edges, refused)
+    });
+    assert_eq!(edges, EDGES, "an edge is lost");
+    assert!(
+        refused >= EDGES / 2,
+        "only {refused} edges came in the middle of a call"
+    );
+}
+
 // ---- threads that wait
 
 /// A thread that waits so many times.

@@ -106,3 +106,45 @@ pub mod awaited {}
 /// It uses `due_of`, `left_of` of this file.
 #[doc(alias("receive_of", "transmit_of", "Registers", "Takes"))]
 pub mod waits {}
+
+/// Whether shared rings are in use, and that no handler is forgotten which came meanwhile.
+///
+/// From `crates/uart_waits/specs/Occupancy.antt`.
+///
+/// <span id="entered"></span>
+///
+/// # `entered`
+///
+/// Somebody came: who comes while the rings are taken is refused, and a handler leaves a mark; a handler that is let in takes the mark.
+///
+/// ```text
+/// abbrev pub entered : (is_handler : Bool) → Occupancy → Occupancy
+/// entered is_handler o = record {
+///   is_taken = true;
+///   is_owed = if o.is_taken then (o.is_owed || is_handler) else (o.is_owed && not is_handler);
+/// }
+/// ```
+///
+/// <span id="left"></span>
+///
+/// # `left`
+///
+/// Who uses the rings is done: they are free, unless there is a mark, which goes.
+///
+/// ```text
+/// abbrev pub left : Occupancy → Occupancy
+/// left o = record { is_taken = o.is_owed; is_owed = false }
+/// ```
+///
+/// <span id="abandoned"></span>
+///
+/// # `abandoned`
+///
+/// Who uses the rings went in the middle: they are free, and a mark stays.
+///
+/// ```text
+/// abbrev pub abandoned : Occupancy → Occupancy
+/// abandoned o = record { is_taken = false; is_owed = o.is_owed }
+/// ```
+#[doc(alias("entered", "left", "abandoned"))]
+pub mod occupancy {}

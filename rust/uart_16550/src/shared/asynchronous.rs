@@ -1,16 +1,16 @@
 //! Shared rings for tasks: futures that the handler wakes.
 
+use super::rings::{self, Rings};
 use super::{CriticalSection, Shared, SharedError};
 use crate::native::Received;
 use crate::native::backend::Backend;
-use crate::ring::{ErrorNotes, Uart16550Ring};
+use crate::ring::ErrorNotes;
 use core::future::poll_fn;
 use core::task::{Context, Poll};
-use uart_waits::{Awaited, Waiter};
 
 impl<S: CriticalSection, B: Backend> Shared<S, B> {
-    /// Takes received bytes, at least one, as [`take`](Uart16550Ring::take) does, and returns how many. Waits until one is there. Of
-    /// no slots it returns 0 at once.
+    /// Takes received bytes, at least one, as [`take`](crate::ring::Uart16550Ring::take) does, and returns how many. Waits until one
+    /// is there. Of no slots it returns 0 at once.
     ///
     /// A future that is dropped before it is ready has taken nothing.
     ///
@@ -48,8 +48,8 @@ impl<S: CriticalSection, B: Backend> Shared<S, B> {
         poll_fn(|context| self.poll_read(context, slots)).await
     }
 
-    /// Queues bytes from the front, at least one, as [`queue`](Uart16550Ring::queue) does, and returns how many. Waits until there
-    /// is room. Of no bytes it returns 0 at once.
+    /// Queues bytes from the front, at least one, as [`queue`](crate::ring::Uart16550Ring::queue) does, and returns how many. Waits
+    /// until there is room. Of no bytes it returns 0 at once.
     ///
     /// A future that is dropped before it is ready has queued nothing.
     ///
@@ -104,20 +104,7 @@ impl<S: CriticalSection, B: Backend> Shared<S, B> {
     /// # }
     /// ```
     pub async fn flush(&self) -> Result<(), SharedError> {
-        poll_fn(|context| {
-            self.poll_for(context, Awaited::EmptyTransmitRing, |ring| {
-                (ring.transmit_len() == 0).then_some(())
-            })
-        })
-        .await?;
-        let limit = self.with(|ring| ring.inner().spin_limit())?;
-        for _look in 0..limit.get() {
-            if self.is_sent()? {
-                return Ok(());
-            }
-            let_others_run().await;
-        }
-        Err(SharedError::GaveUp)
+        rings::flush(self).await
     }
 
     /// Does what [`read`](Self::read) does, for a future by hand.
@@ -130,11 +117,7 @@ impl<S: CriticalSection, B: Backend> Shared<S, B> {
         context: &mut Context<'_>,
         slots: &mut [u8],
     ) -> Poll<Result<usize, SharedError>> {
-        let is_empty = slots.is_empty();
-        self.poll_for(context, Awaited::ReceivedByte, |ring| {
-            let count = ring.take(slots);
-            (count > 0 || is_empty).then_some(count)
-        })
+        self.poll_take(context, slots)
     }
 
     /// Does what [`write`](Self::write) does, for a future by hand.
@@ -147,50 +130,14 @@ impl<S: CriticalSection, B: Backend> Shared<S, B> {
         context: &mut Context<'_>,
         bytes: &[u8],
     ) -> Poll<Result<usize, SharedError>> {
-        self.poll_for(context, Awaited::TransmitRoom, |ring| {
-            let count = ring.queue(bytes);
-            (count > 0 || bytes.is_empty()).then_some(count)
-        })
-    }
-
-    // Looks, and registers the task if it does not find.
-    fn poll_for<R>(
-        &self,
-        context: &mut Context<'_>,
-        awaited: Awaited,
-        look: impl FnOnce(&mut Uart16550Ring<B>) -> Option<R>,
-    ) -> Poll<Result<R, SharedError>> {
-        match self.look(look) {
-            Ok(None) => {}
-            Ok(Some(found)) => return Poll::Ready(Ok(found)),
-            Err(error) => return Poll::Ready(Err(error)),
-        }
-        // Cloned, woken and dropped outside of the section, since all of it is the executor's code. In it two waiters change their
-        // places. Then `in_section` looks for what is awaited, with the task registered, and the handler does not come in between. So
-        // what came since the look above wakes the task at once, and what comes later wakes it then.
-        let mut waiter = Some(Waiter {
-            waker: context.waker().clone(),
-            awaited,
-        });
-        let registered = self.in_section(|port| {
-            waiter = waiter.take().and_then(|waiter| port.waits.register(waiter));
-            Ok(())
-        });
-        if let Err(error) = registered {
-            return Poll::Ready(Err(error));
-        }
-        // There is one place, so another task that was there looks again, and takes the place in its turn.
-        if let Some(other) = waiter.filter(|other| !other.waker.will_wake(context.waker())) {
-            other.waker.wake();
-        }
-        Poll::Pending
+        self.poll_queue(context, bytes)
     }
 }
 
 /// Rings over notes of errors.
 impl<S: CriticalSection, B: Backend> Shared<S, ErrorNotes<B>> {
     /// Does what [`read`](Self::read) does, and returns each byte with its errors, as
-    /// [`take_with_errors`](Uart16550Ring::take_with_errors) does.
+    /// [`take_with_errors`](crate::ring::Uart16550Ring::take_with_errors) does.
     ///
     /// # Errors
     ///
@@ -226,25 +173,6 @@ impl<S: CriticalSection, B: Backend> Shared<S, ErrorNotes<B>> {
         context: &mut Context<'_>,
         slots: &mut [Received],
     ) -> Poll<Result<usize, SharedError>> {
-        let is_empty = slots.is_empty();
-        self.poll_for(context, Awaited::ReceivedByte, |ring| {
-            let taken = ring.take_with_errors(slots);
-            (taken != Ok(0) || is_empty).then_some(taken)
-        })
-        .map(|found| found?.map_err(SharedError::Unnoted))
+        rings::poll_take_with_errors(self, context, slots)
     }
-}
-
-// Lets the executor run other tasks, and then this one again.
-async fn let_others_run() {
-    let mut did_run = false;
-    poll_fn(|context| {
-        if did_run {
-            return Poll::Ready(());
-        }
-        did_run = true;
-        context.waker().wake_by_ref();
-        Poll::Pending
-    })
-    .await;
 }

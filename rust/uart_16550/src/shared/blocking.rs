@@ -1,5 +1,6 @@
 //! Shared rings for threads that wait.
 
+use super::rings::Rings;
 use super::{CriticalSection, Shared, SharedError};
 use crate::native::Received;
 use crate::native::backend::Backend;
@@ -68,6 +69,10 @@ pub trait Wait {
 }
 
 /// Shared rings for one thread, whose calls wait. Returned by [`Shared::blocking`].
+pub type Blocking<'a, S, B, W> = BlockingRings<&'a Shared<S, B>, W>;
+
+/// Rings for one thread, whose calls wait. Returned by [`Shared::blocking`], and by
+/// [`blocking`](super::PortOfLine::blocking) of a port of a line.
 ///
 /// It has the traits of [`embedded_io`](crate::native::embedded_io), and with the feature `embedded-io` those of the crate of this
 /// name. [`flush`](Self::flush) waits until the transmit ring is empty, and then until the chip is. For the chip no interrupt comes, so the
@@ -100,9 +105,15 @@ pub trait Wait {
 /// # assert_eq!(&slots[..count], b"me\r");
 /// # Ok(()) }
 /// ```
-pub struct Blocking<'a, S, B, W> {
-    shared: &'a Shared<S, B>,
+pub struct BlockingRings<P, W> {
+    rings: P,
     wait: W,
+}
+
+impl<P, W> BlockingRings<P, W> {
+    pub(super) const fn new(rings: P, wait: W) -> Self {
+        Self { rings, wait }
+    }
 }
 
 impl<S: CriticalSection, B: Backend> Shared<S, B> {
@@ -120,11 +131,11 @@ impl<S: CriticalSection, B: Backend> Shared<S, B> {
     /// # }
     /// ```
     pub const fn blocking<W: Wait>(&self, wait: W) -> Blocking<'_, S, B, W> {
-        Blocking { shared: self, wait }
+        BlockingRings::new(self, wait)
     }
 }
 
-impl<S: CriticalSection, B: Backend, W: Wait> Blocking<'_, S, B, W> {
+impl<P: Rings, W: Wait> BlockingRings<P, W> {
     /// Queues all of the bytes, and waits for room.
     ///
     /// # Errors
@@ -206,13 +217,13 @@ impl<S: CriticalSection, B: Backend, W: Wait> Blocking<'_, S, B, W> {
         self.wait_for(Awaited::EmptyTransmitRing, |ring| {
             (ring.transmit_len() == 0).then_some(())
         })?;
-        let limit = self.shared.with(|ring| ring.inner().spin_limit())?;
+        let limit = self.rings.with_rings(|ring| ring.inner().spin_limit())?;
         for _look in 0..limit.get() {
-            if self.shared.is_sent()? {
+            if self.rings.is_sent()? {
                 return Ok(());
             }
             // No interrupt comes when the chip is empty, so there is nothing to sleep for.
-            self.wait_once(|| true)?;
+            goes_on(self.wait.wait(|| true))?;
         }
         Err(SharedError::GaveUp)
     }
@@ -221,28 +232,24 @@ impl<S: CriticalSection, B: Backend, W: Wait> Blocking<'_, S, B, W> {
     fn wait_for<R>(
         &mut self,
         awaited: Awaited,
-        mut look: impl FnMut(&mut Uart16550Ring<B>) -> Option<R>,
+        mut look: impl FnMut(&mut Uart16550Ring<P::Backend>) -> Option<R>,
     ) -> Result<R, SharedError> {
-        let shared = self.shared;
         loop {
-            if let Some(found) = shared.look(&mut look)? {
+            if let Some(found) = self.rings.look(&mut look)? {
                 return Ok(found);
             }
-            self.wait_once(|| shared.ends_wait(awaited))?;
-        }
-    }
-
-    fn wait_once(&mut self, is_there: impl FnMut() -> bool) -> Result<(), SharedError> {
-        if self.wait.wait(is_there) {
-            Ok(())
-        } else {
-            Err(SharedError::GaveUp)
+            let rings = &self.rings;
+            goes_on(self.wait.wait(|| rings.ends_wait(awaited)))?;
         }
     }
 }
 
+fn goes_on(does: bool) -> Result<(), SharedError> {
+    if does { Ok(()) } else { Err(SharedError::GaveUp) }
+}
+
 /// Rings over notes of errors.
-impl<S: CriticalSection, B: Backend, W: Wait> Blocking<'_, S, ErrorNotes<B>, W> {
+impl<B: Backend, P: Rings<Backend = ErrorNotes<B>>, W: Wait> BlockingRings<P, W> {
     /// Takes received bytes, at least one, each with its errors, as [`take_with_errors`](Uart16550Ring::take_with_errors) does, and
     /// returns how many. Waits until one is there. Of no slots it returns 0 at once.
     ///
@@ -263,11 +270,11 @@ impl<S: CriticalSection, B: Backend, W: Wait> Blocking<'_, S, ErrorNotes<B>, W> 
     }
 }
 
-impl<S, B, W> ErrorType for Blocking<'_, S, B, W> {
+impl<P, W> ErrorType for BlockingRings<P, W> {
     type Error = SharedError;
 }
 
-impl<S: CriticalSection, B: Backend, W: Wait> Read for Blocking<'_, S, B, W> {
+impl<P: Rings, W: Wait> Read for BlockingRings<P, W> {
     fn read(&mut self, buf: &mut [u8]) -> Result<usize, SharedError> {
         if buf.is_empty() {
             return Ok(0);
@@ -278,7 +285,7 @@ impl<S: CriticalSection, B: Backend, W: Wait> Read for Blocking<'_, S, B, W> {
     }
 }
 
-impl<S: CriticalSection, B: Backend, W: Wait> Write for Blocking<'_, S, B, W> {
+impl<P: Rings, W: Wait> Write for BlockingRings<P, W> {
     fn write(&mut self, buf: &[u8]) -> Result<usize, SharedError> {
         if buf.is_empty() {
             return Ok(0);
@@ -289,7 +296,7 @@ impl<S: CriticalSection, B: Backend, W: Wait> Write for Blocking<'_, S, B, W> {
     }
 
     fn flush(&mut self) -> Result<(), SharedError> {
-        Blocking::flush(self)
+        BlockingRings::flush(self)
     }
 }
 
@@ -298,30 +305,30 @@ impl<S: CriticalSection, B: Backend, W: Wait> Write for Blocking<'_, S, B, W> {
 /// # Errors
 ///
 /// Those of the type, of which `fmt::Error` says nothing.
-impl<S: CriticalSection, B: Backend, W: Wait> fmt::Write for Blocking<'_, S, B, W> {
+impl<P: Rings, W: Wait> fmt::Write for BlockingRings<P, W> {
     fn write_str(&mut self, text: &str) -> fmt::Result {
         self.send_bytes_exact(text.as_bytes())
             .map_err(|_unfinished| fmt::Error)
     }
 }
 
-impl<S: CriticalSection, B: Backend, W> fmt::Debug for Blocking<'_, S, B, W> {
+impl<P: fmt::Debug, W> fmt::Debug for BlockingRings<P, W> {
     fn fmt(&self, f: &mut fmt::Formatter<'_>) -> fmt::Result {
         f.debug_struct("Blocking")
-            .field("shared", self.shared)
+            .field("shared", &self.rings)
             .finish_non_exhaustive()
     }
 }
 
-impl<S: CriticalSection, B: Backend, W> ReadReady for Blocking<'_, S, B, W> {
+impl<P: Rings, W> ReadReady for BlockingRings<P, W> {
     fn read_ready(&mut self) -> Result<bool, SharedError> {
-        self.shared.with(|ring| ring.receive_len() > 0)
+        self.rings.with_rings(|ring| ring.receive_len() > 0)
     }
 }
 
-impl<S: CriticalSection, B: Backend, W> WriteReady for Blocking<'_, S, B, W> {
+impl<P: Rings, W> WriteReady for BlockingRings<P, W> {
     fn write_ready(&mut self) -> Result<bool, SharedError> {
-        self.shared
-            .with(|ring| Seen::of(ring).has(Awaited::TransmitRoom))
+        self.rings
+            .with_rings(|ring| Seen::of(ring).has(Awaited::TransmitRoom))
     }
 }

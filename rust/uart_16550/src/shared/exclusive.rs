@@ -1,4 +1,4 @@
-//! A value that one caller uses at a time. Whoever comes meanwhile is refused, and does not wait.
+//! A value that one caller uses at a time. Whoever comes meanwhile is refused, and does not wait; a handler leaves a mark.
 //!
 //! Of this crate, this, `access.rs` and `access/ports.rs` are the files that do something `unsafe`. That one caller uses the value at a
 //! time is seen to here alone: a kernel's [`CriticalSection`](super::CriticalSection) that keeps nobody out makes calls be refused, and no
@@ -6,42 +6,86 @@
 #![allow(unsafe_code)]
 
 use core::cell::UnsafeCell;
-use core::sync::atomic::{AtomicBool, Ordering};
+use core::mem;
+use core::sync::atomic::{AtomicU8, Ordering};
+use uart_waits::Occupancy;
 
 pub(super) struct Exclusive<T> {
-    is_in_use: AtomicBool,
+    occupancy: AtomicU8,
     value: UnsafeCell<T>,
 }
 
-// SAFETY: `try_with` lets one caller in at a time, so the value is sent from thread to thread, and not shared.
+// SAFETY: `let_in` lets one caller in at a time, so the value is sent from thread to thread, and not shared.
 unsafe impl<T: Send> Sync for Exclusive<T> {}
+
+const TAKEN: u8 = 1;
+const OWED: u8 = 2;
+
+fn occupancy_of(bits: u8) -> Occupancy {
+    Occupancy {
+        is_taken: bits & TAKEN != 0,
+        is_owed: bits & OWED != 0,
+    }
+}
+
+fn bits_of(occupancy: Occupancy) -> u8 {
+    let taken = if occupancy.is_taken { TAKEN } else { 0 };
+    let owed = if occupancy.is_owed { OWED } else { 0 };
+    taken | owed
+}
 
 impl<T> Exclusive<T> {
     pub(super) const fn new(value: T) -> Self {
         Self {
-            is_in_use: AtomicBool::new(false),
+            occupancy: AtomicU8::new(0),
             value: UnsafeCell::new(value),
         }
     }
 
-    /// Calls the function with the value. Returns nothing, and does not call it, if another caller uses the value.
+    /// Lets the caller in. Returns nothing if another caller uses the value: that one serves what a handler came for, by
+    /// [`leave`](Entered::leave).
     #[inline]
-    pub(super) fn try_with<R>(&self, call: impl FnOnce(&mut T) -> R) -> Option<R> {
-        if self.is_in_use.swap(true, Ordering::Acquire) {
-            return None;
-        }
-        let _in_use = InUse(&self.is_in_use);
-        // SAFETY: the sign was clear, and stays set until `_in_use` is dropped. So no other call is here, and the reference is
-        // gone by then, since the function cannot keep it.
-        Some(call(unsafe { &mut *self.value.get() }))
+    pub(super) fn let_in(&self, is_handler: bool) -> Option<Entered<'_, T>> {
+        let before = self.change(|occupancy| occupancy.entered(is_handler));
+        // Not made for nobody: it frees the value when it is dropped.
+        (!before.is_taken).then(|| Entered(self))
+    }
+
+    // Changes the occupancy at once, and returns what it was. What was done with the value before is seen by who is let in later.
+    #[inline]
+    fn change(&self, change: impl Fn(Occupancy) -> Occupancy) -> Occupancy {
+        let changed = self.occupancy.fetch_update(Ordering::AcqRel, Ordering::Relaxed, |bits| {
+            Some(bits_of(change(occupancy_of(bits))))
+        });
+        // It is always changed.
+        occupancy_of(changed.unwrap_or_else(|bits| bits))
     }
 }
 
-/// The sign that a value is in use. It is cleared at the end, also if the call unwinds.
-struct InUse<'a>(&'a AtomicBool);
+/// The caller that is in. It goes at the end, also if a call unwinds.
+pub(super) struct Entered<'a, T>(&'a Exclusive<T>);
 
-impl Drop for InUse<'_> {
+impl<T> Entered<'_, T> {
+    #[inline]
+    pub(super) fn value(&mut self) -> &mut T {
+        // SAFETY: the value was not taken, and stays taken until this is dropped or has left. So no other caller is in, and the
+        // reference is gone by then, since it borrows this.
+        unsafe { &mut *self.0.value.get() }
+    }
+
+    /// Goes. If a handler came meanwhile, the caller stays: it serves what that one came for, and tries again.
+    #[inline]
+    pub(super) fn leave(self) -> Result<(), Self> {
+        if self.0.change(Occupancy::left).is_owed {
+            return Err(self);
+        }
+        mem::forget(self);
+        Ok(())
+    }
+}
+
+impl<T> Drop for Entered<'_, T> {
     fn drop(&mut self) {
-        self.0.store(false, Ordering::Release);
+        self.0.change(Occupancy::abandoned);
     }
 }

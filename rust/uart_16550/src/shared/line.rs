@@ -1,11 +1,17 @@
 //! Ports that share one interrupt line, behind one lock.
 
 use super::exclusive::Exclusive;
-use super::{CriticalSection, SharedError, StartError};
-use crate::native::Uart16550;
+use super::rings::{self, Rings, Turns};
+use super::{BlockingRings, CriticalSection, SharedError, StartError, Wait};
 use crate::native::backend::Backend;
-use crate::ring::{Global, Handled, LinePort, LinePorts, StuckError, Uart16550Ring, handle_line};
+use crate::native::{Received, Uart16550};
+use crate::ring::{
+    ErrorNotes, Global, Handled, LinePort, LinePorts, MAX_INTERRUPTS, StuckError, Uart16550Ring, handle_line,
+};
 use core::fmt;
+use core::future::poll_fn;
+use core::task::{Context, Poll, Waker};
+use uart_waits::{Due, Seen, Waits};
 
 /// The ports of one interrupt line, which an interrupt handler and threads share: `N` places for them, behind one lock.
 ///
@@ -55,7 +61,20 @@ pub struct SharedLine<S, B, const N: usize> {
 }
 
 // The places of a line. A place without a port has no part in what the handler does.
-struct Places<B, const N: usize>([Option<LinePort<B>>; N]);
+struct Places<B, const N: usize>([Place<B>; N]);
+
+// A port, and the tasks that wait at it.
+struct Place<B> {
+    port: Option<LinePort<B>>,
+    waits: Waits<Waker>,
+}
+
+impl<B: Backend> Place<B> {
+    fn take_due(&mut self) -> Due<Waker> {
+        let seen = self.port.as_ref().map(|port| Seen::of(&port.ring));
+        self.waits.take_due(seen)
+    }
+}
 
 impl<B: Backend, const N: usize> LinePorts for Places<B, N> {
     fn number(&self) -> usize {
@@ -75,7 +94,7 @@ impl<B: Backend, const N: usize> LinePorts for Places<B, N> {
 
 impl<B, const N: usize> Places<B, N> {
     fn port(&mut self, port: usize) -> Result<&mut LinePort<B>, SharedError> {
-        let place = self.0.get_mut(port).and_then(Option::as_mut);
+        let place = self.0.get_mut(port).and_then(|place| place.port.as_mut());
         place.ok_or(SharedError::NoRings)
     }
 }
@@ -95,7 +114,7 @@ impl<S: CriticalSection, B: Backend, const N: usize> fmt::Debug for SharedLine<S
         // What writes the text is not called in the section: it may take long, and may write by these rings.
         let seen = self.in_section(|places| {
             places.0.each_ref().map(|place| {
-                place.as_ref().map(|port| Waiting {
+                place.port.as_ref().map(|port| Waiting {
                     transmit_len: port.ring.transmit_len(),
                     receive_len: port.ring.receive_len(),
                 })
@@ -116,7 +135,14 @@ impl<S, B, const N: usize> SharedLine<S, B, N> {
     pub const fn new(section: S) -> Self {
         Self {
             section,
-            places: Exclusive::new(Places([const { None }; N])),
+            places: Exclusive::new(Places(
+                [const {
+                    Place {
+                        port: None,
+                        waits: Waits::new(),
+                    }
+                }; N],
+            )),
         }
     }
 }
@@ -161,9 +187,9 @@ impl<S: CriticalSection, B: Backend, const N: usize> SharedLine<S, B, N> {
         let mut made = Some(ring);
         let entered = self.in_section(|places| match places.0.get_mut(port) {
             None => Err(StartError::NoPlace),
-            Some(Some(_)) => Err(StartError::Started),
+            Some(place) if place.port.is_some() => Err(StartError::Started),
             Some(place) => {
-                *place = made.take().map(LinePort::new);
+                place.port = made.take().map(LinePort::new);
                 Ok(())
             }
         });
@@ -175,6 +201,8 @@ impl<S: CriticalSection, B: Backend, const N: usize> SharedLine<S, B, N> {
     }
 
     /// Takes the rings of a port out of the line, and returns them. Makes no access.
+    ///
+    /// Whoever waits for them gets `NoRings`.
     ///
     /// Disable the chip's interrupts before, by [`with_port`](Self::with_port): the handler serves none of this port any more, and
     /// its line would stay high.
@@ -199,7 +227,7 @@ impl<S: CriticalSection, B: Backend, const N: usize> SharedLine<S, B, N> {
     /// ```
     pub fn stop(&self, port: usize) -> Result<Uart16550Ring<B>, SharedError> {
         self.in_section(|places| {
-            let place = places.0.get_mut(port).and_then(Option::take);
+            let place = places.0.get_mut(port).and_then(|place| place.port.take());
             place.map(|port| port.ring).ok_or(SharedError::NoRings)
         })?
     }
@@ -208,11 +236,12 @@ impl<S: CriticalSection, B: Backend, const N: usize> SharedLine<S, B, N> {
     /// at one of the ports.
     ///
     /// Call it once each time the interrupt controller calls the handler, whether it detects levels or edges. What was handled at
-    /// each port, and which chip is stuck, [`handled`](Self::handled) tells.
+    /// each port, and which chip is stuck, [`handled`](Self::handled) tells. The tasks that wait for what is now there are woken.
     ///
     /// # Errors
     ///
-    /// `InUse` if the call came in the middle of another one. Nothing was done then.
+    /// `InUse` if the call came in the middle of another one, as it can where the section does not mask the interrupt. That call
+    /// handles the interrupt at its end: no edge is forgotten. That is proved (`no_handler_is_forgotten` of the crate `uart_waits`).
     ///
     /// # Examples
     ///
@@ -226,7 +255,7 @@ impl<S: CriticalSection, B: Backend, const N: usize> SharedLine<S, B, N> {
     /// # Ok(()) }
     /// ```
     pub fn handle(&self, limit: usize, rounds: u32) -> Result<bool, SharedError> {
-        self.in_section(|places| handle_line(places, limit, rounds))
+        self.in_turn(true, |places| handle_line(places, limit, rounds))
     }
 
     /// Returns what the last [`handle`](Self::handle) handled at a port, or why its chip is stuck. Makes no access.
@@ -288,10 +317,205 @@ impl<S: CriticalSection, B: Backend, const N: usize> SharedLine<S, B, N> {
         self.in_section(|places| Ok(call(&mut places.port(port)?.ring)))?
     }
 
+    /// Returns a port of the line, for tasks and for threads that wait. Makes no access.
+    ///
+    /// Its calls are those of [`Shared`](super::Shared). If there is no such port they return `NoRings`.
+    ///
+    /// # Examples
+    ///
+    /// ```
+    /// # include!(concat!(env!("CARGO_MANIFEST_DIR"), "/tests/common/line.rs"));
+    /// # use uart_16550::shared::SharedError;
+    /// # fn main() {
+    /// # start();
+    /// async fn echo() -> Result<(), SharedError> {
+    ///     let port = LINE.port(0);
+    ///     let mut slots = [0; 64];
+    ///     let count = port.read(&mut slots).await?;
+    ///     let mut rest = &slots[..count];
+    ///     while !rest.is_empty() {
+    ///         rest = &rest[port.write(rest).await?..];
+    ///     }
+    ///     port.flush().await
+    /// }
+    /// # let _not_run = echo;
+    /// # }
+    /// ```
+    pub const fn port(&self, port: usize) -> PortOfLine<'_, S, B, N> {
+        PortOfLine { line: self, port }
+    }
+
     // Calls the function in the section.
     #[inline]
     fn in_section<R>(&self, call: impl FnOnce(&mut Places<B, N>) -> R) -> Result<R, SharedError> {
-        let entered = self.section.run(|| self.places.try_with(call));
+        self.in_turn(false, call)
+    }
+
+    // Calls the function in the section, serves what handlers came for meanwhile, and then wakes the tasks whose turn it is.
+    #[inline]
+    fn in_turn<R>(&self, is_handler: bool, call: impl FnOnce(&mut Places<B, N>) -> R) -> Result<R, SharedError> {
+        let mut turns = [const { Turns::NONE }; N];
+        let entered = self.section.run(|| {
+            let mut entered = self.places.let_in(is_handler)?;
+            let result = call(entered.value());
+            entered.value().add_due(&mut turns);
+            while let Err(owed) = entered.leave() {
+                entered = owed;
+                // The chips that are left with an interrupt raise the line again. No chip is taken for stuck here: the handler counts.
+                handle_line(entered.value(), MAX_INTERRUPTS, u32::MAX);
+                entered.value().add_due(&mut turns);
+            }
+            Some(result)
+        });
+        rings::wake(&mut turns);
         entered.ok_or(SharedError::InUse)
+    }
+}
+
+impl<B: Backend, const N: usize> Places<B, N> {
+    fn add_due(&mut self, turns: &mut [Turns; N]) {
+        for (place, turns) in self.0.iter_mut().zip(turns) {
+            turns.add(place.take_due());
+        }
+    }
+}
+
+/// A port of a [`SharedLine`], for tasks and for threads that wait. Returned by [`SharedLine::port`].
+///
+/// # Errors
+///
+/// - `NoRings` if there is no such port, or none any more.
+/// - `Stuck` if what is awaited is not there, and the chip is stuck, and so does not come to it.
+/// - `InUse` if the call comes in the middle of another one, also at another port of the line.
+///
+/// # Examples
+///
+/// ```
+/// # include!(concat!(env!("CARGO_MANIFEST_DIR"), "/tests/common/line.rs"));
+/// # use uart_16550::shared::{SharedError, Wait};
+/// use core::fmt::Write as _;
+/// # struct Turns(u32);
+/// # impl Wait for Turns {
+/// #     fn wait(&mut self, _is_there: impl FnMut() -> bool) -> bool {
+/// #         self.0 -= 1;
+/// #         self.0 > 0
+/// #     }
+/// # }
+///
+/// # fn main() -> Result<(), core::fmt::Error> {
+/// # start();
+/// // `Turns` is how a thread of the kernel waits.
+/// let mut log = LINE.port(0).blocking(Turns(1000));
+/// writeln!(log, "started")?;
+/// # Ok(()) }
+/// ```
+pub struct PortOfLine<'a, S, B, const N: usize> {
+    line: &'a SharedLine<S, B, N>,
+    port: usize,
+}
+
+impl<S, B, const N: usize> Clone for PortOfLine<'_, S, B, N> {
+    fn clone(&self) -> Self {
+        *self
+    }
+}
+
+impl<S, B, const N: usize> Copy for PortOfLine<'_, S, B, N> {}
+
+impl<S: CriticalSection, B: Backend, const N: usize> fmt::Debug for PortOfLine<'_, S, B, N> {
+    fn fmt(&self, f: &mut fmt::Formatter<'_>) -> fmt::Result {
+        f.debug_struct("PortOfLine")
+            .field("line", self.line)
+            .field("port", &self.port)
+            .finish()
+    }
+}
+
+impl<S: CriticalSection, B: Backend, const N: usize> Rings for PortOfLine<'_, S, B, N> {
+    type Backend = B;
+
+    fn in_section<R>(
+        &self,
+        call: impl FnOnce(Option<&mut Uart16550Ring<B>>, &mut Waits<Waker>) -> R,
+    ) -> Result<R, SharedError> {
+        self.line.in_section(|places| {
+            let place = places.0.get_mut(self.port).ok_or(SharedError::NoRings)?;
+            Ok(call(place.port.as_mut().map(|port| &mut port.ring), &mut place.waits))
+        })?
+    }
+}
+
+impl<S: CriticalSection, B: Backend, const N: usize> PortOfLine<'_, S, B, N> {
+    /// Calls the function with the rings, as [`with_port`](SharedLine::with_port) does.
+    ///
+    /// # Errors
+    ///
+    /// `NoRings` or `InUse`. The function was not called then.
+    pub fn with<R>(&self, call: impl FnOnce(&mut Uart16550Ring<B>) -> R) -> Result<R, SharedError> {
+        self.with_rings(call)
+    }
+
+    /// Takes received bytes, at least one, as [`read`](super::Shared::read) of [`Shared`](super::Shared) does.
+    ///
+    /// # Errors
+    ///
+    /// Those of the type.
+    pub async fn read(&self, slots: &mut [u8]) -> Result<usize, SharedError> {
+        poll_fn(|context| self.poll_read(context, slots)).await
+    }
+
+    /// Queues bytes from the front, at least one, as [`write`](super::Shared::write) of [`Shared`](super::Shared) does.
+    ///
+    /// # Errors
+    ///
+    /// Those of the type.
+    pub async fn write(&self, bytes: &[u8]) -> Result<usize, SharedError> {
+        poll_fn(|context| self.poll_write(context, bytes)).await
+    }
+
+    /// Waits until all that was written is on the line, as [`flush`](super::Shared::flush) of [`Shared`](super::Shared) does.
+    ///
+    /// # Errors
+    ///
+    /// Those of the type, and `GaveUp` after as many looks at the chip as the driver's spin limit.
+    pub async fn flush(&self) -> Result<(), SharedError> {
+        rings::flush(self).await
+    }
+
+    /// Does what [`read`](Self::read) does, for a future by hand.
+    ///
+    /// # Errors
+    ///
+    /// Those of the type.
+    pub fn poll_read(&self, context: &mut Context<'_>, slots: &mut [u8]) -> Poll<Result<usize, SharedError>> {
+        self.poll_take(context, slots)
+    }
+
+    /// Does what [`write`](Self::write) does, for a future by hand.
+    ///
+    /// # Errors
+    ///
+    /// Those of the type.
+    pub fn poll_write(&self, context: &mut Context<'_>, bytes: &[u8]) -> Poll<Result<usize, SharedError>> {
+        self.poll_queue(context, bytes)
+    }
+}
+
+impl<'a, S: CriticalSection, B: Backend, const N: usize> PortOfLine<'a, S, B, N> {
+    /// Returns the port for a thread that waits so, as [`blocking`](super::Shared::blocking) of [`Shared`](super::Shared) does.
+    pub const fn blocking<W: Wait>(self, wait: W) -> BlockingRings<PortOfLine<'a, S, B, N>, W> {
+        BlockingRings::new(self, wait)
+    }
+}
+
+/// Rings over notes of errors.
+impl<S: CriticalSection, B: Backend, const N: usize> PortOfLine<'_, S, ErrorNotes<B>, N> {
+    /// Does what [`read`](Self::read) does, and returns each byte with its errors.
+    ///
+    /// # Errors
+    ///
+    /// Those of the type, and `Unnoted` if bytes have no note of their errors. Then nothing is taken.
+    pub async fn read_with_errors(&self, slots: &mut [Received]) -> Result<usize, SharedError> {
+        poll_fn(|context| rings::poll_take_with_errors(self, context, slots)).await
     }
 }
