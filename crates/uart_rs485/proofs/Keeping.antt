@@ -8,7 +8,7 @@ use Rattle.uart_spec.specs.Bits.{has}
 use Rattle.uart_16550.specs.Frame.{unlooped}
 use Rattle.uart_rs485.specs.Bus.{BusFields, SendsBytes, SendsBytesExact, Stays, TriesToFinish, Turns, with_driver}
 use Rattle.uart_rs485.specs.Directions.{sends_after, turned}
-use Rattle.uart_rs485.specs.Laws.{BusCall, DoesCall, DoesCalls, CallsKeepDirection, KeepsFromNew}
+use Rattle.uart_rs485.specs.Laws.{BusCall, DoesCall, DoesCalls, CallsKeepDirection, GivingUpFrees, KeepsFromNew}
 use Rattle.uart_rs485.specs.declared.direction.Direction.{Direction}
 use Rattle.uart_rs485.specs.declared.errors.BusyError.{BusyError}
 use Rattle.uart_rs485.specs.declared.errors.NotSendingError.{NotSendingError}
@@ -16,7 +16,8 @@ use Rattle.uart_rs485.specs.declared.errors.SendError.{SendError}
 use Rattle.uart_rs485.specs.declared.errors.SendError.TheVariants.{NotSending, Stalled}
 use Rattle.uart_rs485.proofs.Allowing.{AllowsAll, allows_append, keeps_all, sends_after-append}
 use Rattle.uart_rs485.proofs.Quiet.{AllQuiet, quiet_allows, quiet_stays, idle_quiet, flush_quiet, sends_quiet, exact_quiet}
-use Rattle.uart_rs485.proofs.Quiet.{receives_quiet, receives_noted_quiet}
+use Rattle.uart_rs485.proofs.Quiet.{receives_quiet, receives_noted_quiet, ready_quiet, try_quiet, try_noted_quiet}
+use Rattle.uart_rs485.proofs.Quiet.{receives_exact_quiet, receives_while_quiet, echo_quiet}
 use Rattle.uart_rs485.proofs.Turning.{switches_turn, unlooped_off}
 
 -- the accesses are allowed, and afterwards a bus is taken to be sending exactly if it is
@@ -65,13 +66,13 @@ written d sends mcr = unlooped (turned d sends mcr)
 apart : offsets.MCR ≡ offsets.DATA → ⊥
 apart same = absurd (omega arith)
 
-turn_allows : (d : Direction) (before empty sends : Bool) (mcr : ℕ) → (sends ≡ false → empty ≡ true) →
+pub turn_allows : (d : Direction) (before empty sends : Bool) (mcr : ℕ) → (sends ≡ false → empty ≡ true) →
     AllowsAll d before empty (Read offsets.MCR mcr ∷ Write offsets.MCR (written d sends mcr) ∷ [])
 turn_allows d before empty sends mcr due =
     let t = switches_turn d sends mcr in
     (tt, ((λ at. absurd (apart at), λ at off. due (sym t.0 ∙ off), λ at. (t.1, unlooped_off (turned d sends mcr))), tt))
 
-never : (e : Bool) → true ≡ false → e ≡ true
+pub never : (e : Bool) → true ≡ false → e ≡ true
 never e wrong = absurd cc
 
 turns_kept : (f : BusFields) (l : List Access) (after : BusFields) → Turns true f l after → KeptFrom f l after
@@ -84,7 +85,7 @@ turns_kept f l after t =
     }
 
 -- LSR shows an empty transmitter, and the transceiver is switched to receive
-finished : (d : Direction) (before : Bool) (lsr mcr : ℕ) (l : List Access) → has lsr LSR.TRANSMITTER_EMPTY.0 ≡ true →
+pub finished : (d : Direction) (before : Bool) (lsr mcr : ℕ) (l : List Access) → has lsr LSR.TRANSMITTER_EMPTY.0 ≡ true →
     l ≡ Read offsets.LSR lsr ∷ Read offsets.MCR mcr ∷ Write offsets.MCR (written d false mcr) ∷ [] →
     AllowsAll d before false l × (sends_after d before l ≡ false)
 finished d before lsr mcr l shows is = rw is (
@@ -149,12 +150,22 @@ call_kept BusCall.try_finish f l after (result, t) = tries_kept result f l after
 call_kept BusCall.is_idle f l after (idle, t) = quiet_kept f l after (idle_quiet f.sends idle _ l t.0.0) t.1
 call_kept BusCall.flush f l after (result, t) = quiet_kept f l after (flush_quiet f.sends result _ l t.0.0) t.1
 call_kept BusCall.lsr f l after (status, t) = quiet_kept f l after (rw t.0.1 (tt, tt)) t.1
+call_kept BusCall.ready_to_receive f l after (result, t) = quiet_kept f l after (ready_quiet f.sends result _ l t.0.0) t.1
+call_kept BusCall.try_receive_byte f l after (result, t) = quiet_kept f l after (try_quiet f.sends result _ l t.0.0) t.1
+call_kept BusCall.try_receive_with_errors f l after (result, t) =
+    quiet_kept f l after (try_noted_quiet f.sends result _ l t.0.0) t.1
 call_kept (BusCall.send_bytes bytes) f l after (result, t) = sends_kept bytes result f l after t
 call_kept (BusCall.send_bytes_exact bytes) f l after (result, t) = exact_kept bytes result f l after t
 call_kept (BusCall.receive_bytes slots) f l after (bytes, t) =
     quiet_kept f l after (receives_quiet f.sends slots bytes _ l t.0.0) t.1
 call_kept (BusCall.receive_with_errors slots) f l after (items, t) =
     quiet_kept f l after (receives_noted_quiet f.sends slots items _ l t.0.0) t.1
+call_kept (BusCall.receive_bytes_exact slots) f l after (bytes, result, t) =
+    quiet_kept f l after (receives_exact_quiet f.sends slots bytes result _ l t.0.0) t.1
+call_kept (BusCall.receive_bytes_while slots) f l after (bytes, said, result, t) =
+    quiet_kept f l after (receives_while_quiet f.sends slots bytes said result _ l t.0.0) t.1
+call_kept (BusCall.receive_echo sent) f l after (result, t) =
+    quiet_kept f l after (echo_quiet f.sends sent result _ l t.0.0) t.1
 
 pub calls_kept : (calls : List BusCall) (f : BusFields) (l : List Access) (after : BusFields) → DoesCalls calls f l after →
     KeptFrom f l after
@@ -170,3 +181,21 @@ pub keeps_from_new : KeepsFromNew
 keeps_from_new d sends driver calls l m mid after t u =
     let kept = then_kept d sends l m mid after (finishes_kept _ l mid sends t) (calls_kept calls mid m after u) in
     (keeps_all d sends (l ++ m) kept.allows, kept.sends)
+
+-- ---- the bus is given up
+
+pub frees : GivingUpFrees
+frees status f l after t =
+    let made = t.second.0.0 in
+    let looked = t.first.0 in
+    let way : t.mid.direction ≡ f.direction = ap (λ (x : BusFields). x.direction) t.first.1 in
+    record {
+      lsr = looked.0;
+      mcr = made.0;
+      written = written f.direction false made.0;
+      is = t.whole ∙ (λ i. looked.1 i ++ made.1 i)
+          ∙ ap (λ (d : Direction). Read offsets.LSR looked.0 ∷ Read offsets.MCR made.0 ∷
+          Write offsets.MCR (written d false made.0) ∷ []) way;
+      receives = switches_turn f.direction false made.0;
+      loopback = unlooped_off (turned f.direction false made.0);
+    }

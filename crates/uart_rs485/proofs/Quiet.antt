@@ -1,9 +1,10 @@
 -- Calls of the driver that write no register but DATA, and that only while the transceiver sends.
 use Rattle.std.proofs.Common.{◌≡◌, ℕ, zero, suc, Bool, true, false, MatchBool, List, [], ◌∷◌, ◌++◌, Result, Ok, Err, refl, sym}
-use Rattle.std.proofs.Common.{take, subst, arith, inl, inr}
+use Rattle.std.proofs.Common.{◌+◌, take, subst, arith, inl, inr}
 use Rattle.std.specs.Prelude.{⊤}
 use Rattle.uart_spec.specs.declared.access.Access.{Access}
 use Rattle.uart_spec.specs.declared.access.Access.TheVariants.{Read, Write}
+use Rattle.uart_spec.specs.declared.errors.ByteReceiveError.{ByteReceiveError}
 use Rattle.uart_spec.specs.declared.errors.ByteSendError.TheVariants.{NoCapacity, RemoteNotClearToSend}
 use Rattle.uart_spec.specs.declared.errors.StalledError.{StalledError}
 use Rattle.uart_spec.specs.declared.received.Received.{Received}
@@ -11,9 +12,15 @@ use Rattle.uart_spec.specs.declared.registers.line_status.TheConstants.LSR
 use Rattle.uart_spec.specs.declared.registers.offsets.TheConstants as offsets
 use Rattle.uart_16550.specs.Grammar.{Language, Settings, Only, Then, InOrder, Times, FewMisses, AllMisses, Asks}
 use Rattle.uart_16550.specs.Io.{Flushes}
-use Rattle.uart_16550.specs.Receive.{Hit, HitWithErrors, Miss, Receives, ReceivesWithErrors}
+use Rattle.uart_16550.specs.Patience.{ByteAfter, InVain, ReceivesWhile}
+use Rattle.uart_16550.specs.Patience.{Awaited as ReceivedAfter}
+use Rattle.uart_16550.specs.Receive.{Awaited, Hit, HitWithErrors, Miss, ReadyToReceive, Receives, ReceivesExact, ReceivesWithErrors}
+use Rattle.uart_16550.specs.Receive.{TryReceive, TryReceiveWithErrors}
 use Rattle.uart_16550.specs.Transmit.{Burst, LinesAllow, Round, SendHit, SendMiss, Sends, SendsExact, data_writes}
+use Rattle.uart_rs485.specs.Bus.{HearsEcho}
 use Rattle.uart_rs485.specs.Directions.{sends_after}
+use Rattle.uart_rs485.specs.declared.errors.EchoError.{EchoError}
+use Rattle.uart_rs485.specs.declared.errors.EchoError.TheVariants.{Differs, Silent}
 use Rattle.uart_rs485.specs.declared.direction.Direction.{Direction}
 use Rattle.uart_rs485.proofs.Allowing.{AllowsAll}
 
@@ -143,3 +150,51 @@ receives_noted_quiet sends slots items s l (inl (all, t)) = order_quiet sends Hi
 receives_noted_quiet sends slots items s l (inr (fewer, t)) =
     then_quiet sends (InOrder HitWithErrors items) Miss (order_quiet sends HitWithErrors items (noted_quiet sends))
     (missed_quiet sends) s l t
+
+-- ---- the calls that wait for a byte, and those that take one
+
+pub ready_quiet : (sends : Bool) (result : Result (Unit {0}) ByteReceiveError) → IsQuietAll sends (ReadyToReceive result)
+ready_quiet sends (Ok x) s l t = asks_quiet sends _ _ _ s l t
+ready_quiet sends (Err e) s l t = missed_quiet sends s l t
+
+pub try_quiet : (sends : Bool) (result : Result ℕ ByteReceiveError) → IsQuietAll sends (TryReceive result)
+try_quiet sends (Ok byte) s l t = received_quiet sends byte s l t
+try_quiet sends (Err e) s l t = missed_quiet sends s l t
+
+pub try_noted_quiet : (sends : Bool) (result : Result Received ByteReceiveError) → IsQuietAll sends (TryReceiveWithErrors result)
+try_noted_quiet sends (Ok item) s l t = noted_quiet sends item s l t
+try_noted_quiet sends (Err e) s l t = missed_quiet sends s l t
+
+awaited_quiet : (sends : Bool) (byte : ℕ) → IsQuietAll sends (Awaited byte)
+awaited_quiet sends byte s l t =
+    then_quiet sends _ _ (few_quiet sends Miss (missed_quiet sends)) (received_quiet sends byte) s l t
+
+silent_quiet : (sends : Bool) (bytes : List ℕ) → IsQuietAll sends (Then (InOrder Awaited bytes) (AllMisses Miss))
+silent_quiet sends bytes s l t =
+    then_quiet sends _ _ (order_quiet sends Awaited bytes (awaited_quiet sends)) (all_quiet sends Miss (missed_quiet sends)) s l t
+
+pub receives_exact_quiet : (sends : Bool) (slots : ℕ) (bytes : List ℕ) (result : Result (Unit {0}) StalledError) →
+    IsQuietAll sends (ReceivesExact slots bytes result)
+receives_exact_quiet sends slots bytes (Ok x) s l (all, t) = order_quiet sends Awaited bytes (awaited_quiet sends) s l t
+receives_exact_quiet sends slots bytes (Err e) s l (fewer, done, t) = silent_quiet sends bytes s l t
+
+pub echo_quiet : (sends : Bool) (sent : List ℕ) (result : Result (Unit {0}) EchoError) → IsQuietAll sends (HearsEcho sent result)
+echo_quiet sends sent (Ok x) s l t = order_quiet sends Awaited sent (awaited_quiet sends) s l t
+echo_quiet sends sent (Err (Differs done heard)) s l (byte, there, other, t) =
+    order_quiet sends Awaited _ (awaited_quiet sends) s l t
+echo_quiet sends sent (Err (Silent done)) s l (fewer, t) = silent_quiet sends _ s l t
+
+byte_after_quiet : (sends : Bool) (byte : ReceivedAfter ℕ) → IsQuietAll sends (ByteAfter byte)
+byte_after_quiet sends byte s l (few, t) =
+    then_quiet sends _ _ (times_quiet sends byte.misses Miss (missed_quiet sends)) (received_quiet sends byte.item) s l t
+
+vain_quiet : (sends : Bool) (said : List Bool) → IsQuietAll sends (InVain Miss said)
+vain_quiet sends said s l (inl (is, t)) = all_quiet sends Miss (missed_quiet sends) s l t
+vain_quiet sends said s l (inr (n, few, is, t)) = times_quiet sends (n + 1) Miss (missed_quiet sends) s l t
+
+pub receives_while_quiet : (sends : Bool) (slots : ℕ) (bytes : List ℕ) (said : List Bool) (result : Result (Unit {0}) StalledError) →
+    IsQuietAll sends (ReceivesWhile slots bytes said result)
+receives_while_quiet sends slots bytes said (Ok x) s l (received, is, all, asked, t) =
+    order_quiet sends ByteAfter received (byte_after_quiet sends) s l t
+receives_while_quiet sends slots bytes said (Err e) s l (received, last, is, fewer, done, asked, t) =
+    then_quiet sends _ _ (order_quiet sends ByteAfter received (byte_after_quiet sends)) (vain_quiet sends last) s l t

@@ -1,18 +1,23 @@
 -- A driver at a bus: what it holds, and what each call does.
-use Rattle.std.specs.Prelude.{◌≡◌, ℕ, Bool, true, false, List, [], Result, Ok, Err}
+use Rattle.std.specs.Prelude.{◌≡◌, ◌<◌, ◌≢◌, ◌+◌, ℕ, Bool, true, false, List, [], ◌∷◌, ◌++◌, length, take}
+use Rattle.std.specs.Prelude.{Result, Ok, Err}
+use Rattle.std.specs.List.{FoldsTo}
 use Rattle.uart_spec.specs.Access.{Path}
 use Rattle.uart_spec.specs.declared.access.Access.{Access}
-use Rattle.uart_spec.specs.declared.errors.StalledError.{StalledError}
 use Rattle.uart_spec.specs.declared.registers.offsets.TheConstants as offsets
 use Rattle.uart_16550.specs.Driver.{Fields, Doing, Saving, Next, fields, backend_of}
 use Rattle.uart_16550.specs.Frame.{ShowsIdle, unlooped}
-use Rattle.uart_16550.specs.Grammar.{Modifies}
+use Rattle.uart_16550.specs.Grammar.{AllMisses, InOrder, Language, Modifies, Then}
+use Rattle.uart_16550.specs.Receive.{Awaited, Miss}
+use Rattle.uart_16550.specs.Status.{TakesLsr}
 use Rattle.uart_16550.specs.Transmit.{Sends, SendsExact}
 use Rattle.uart_16550.specs.declared.driver.Uart16550.{Uart16550}
 use Rattle.uart_rs485.specs.Directions.{turned}
 use Rattle.uart_rs485.specs.declared.bus.HalfDuplex.{HalfDuplex}
 use Rattle.uart_rs485.specs.declared.direction.Direction.{Direction}
 use Rattle.uart_rs485.specs.declared.errors.BusyError.{BusyError}
+use Rattle.uart_rs485.specs.declared.errors.EchoError.{EchoError}
+use Rattle.uart_rs485.specs.declared.errors.EchoError.TheVariants.{Differs, Silent}
 use Rattle.uart_rs485.specs.declared.errors.NotSendingError.{NotSendingError}
 use Rattle.uart_rs485.specs.declared.errors.SendError.{SendError}
 use Rattle.uart_rs485.specs.declared.errors.SendError.TheVariants.{NotSending, Stalled}
@@ -45,6 +50,14 @@ pub record BusDid {B : Type 0} (step : B → Access → B → Type 0) (G : BusDo
   pub list : List Access
   pub path : Path step (bus_backend_of old) list (bus_backend_of new)
   pub does : G (bus_fields old) list (bus_fields new)
+
+-- the caller was asked and gave some answers, from the first of its states to the second, and the call did what goes
+-- with them, as `BusDid` says
+pub record BusDidWhile {P B : Type 0} (answers : P → Bool → P → Type 0) (step : B → Access → B → Type 0)
+    (G : List Bool → BusDoing) (before after : P) (old new : HalfDuplex B) : Type 0 where
+  pub said : List Bool
+  pub asked : FoldsTo answers before said after
+  pub did : BusDid step (G said) old new
 
 -- the fields as they are; with another driver; with this direction
 abbrev pub unchanged : BusFields → BusFields
@@ -90,6 +103,25 @@ Begins step driver direction (Ok bus) =
     BusDid step (TriesToFinish {T = Unit {0}} (Ok tt)) (unknown driver direction) bus
 Begins step driver direction (Err (returned, e)) =
     BusDid step (TriesToFinish {T = Unit {0}} (Err e)) (unknown driver direction) (unknown returned direction)
+
+-- a driver at a bus that receives
+abbrev pub receiving : {B : Type 0} → Uart16550 B → Direction → HalfDuplex B
+receiving driver direction = record { uart = driver; direction = direction; is_sending = false }
+
+-- `give_up`: one read of LSR, which is returned joined with the saved bits, and the transceiver is switched to receive,
+-- whatever LSR shows
+abbrev pub GivesUp : (status : ℕ) → BusDoing
+GivesUp status = Next (OnDriver (TakesLsr status) unchanged) (Turns false)
+
+-- `receive_echo`: each byte that was sent is heard, after its own wait; or as many as the error reports, and then
+-- another byte than was sent there, or none in the next wait
+abbrev pub HearsEcho : {T : Type 0} → (sent : List ℕ) → Result T EchoError → Language
+HearsEcho sent (Ok x) s l = InOrder Awaited sent s l
+HearsEcho sent (Err (Differs done heard)) s l =
+    (byte : ℕ) × (take (done + 1) sent ≡ take done sent ++ byte ∷ []) × (byte ≢ heard)
+    × InOrder Awaited (take done sent ++ heard ∷ []) s l
+HearsEcho sent (Err (Silent done)) s l =
+    (done < length sent) × Then (InOrder Awaited (take done sent)) (AllMisses Miss) s l
 
 -- `send_bytes`: while the direction is to send, a `send_bytes` of the driver; else nothing, and the error
 abbrev pub SendsBytes : List ℕ → Result ℕ NotSendingError → BusDoing

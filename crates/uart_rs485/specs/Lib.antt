@@ -1,3 +1,4 @@
 pub mod Directions
 pub mod Bus
 pub mod Laws
+pub mod Rings

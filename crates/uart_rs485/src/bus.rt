@@ -3,8 +3,8 @@ ghost use Rattle.std.specs.Prelude.{true};
 ghost use Rattle.uart_16550.specs.Driver.{Saving};
 ghost use Rattle.uart_16550.specs.Frame.{ShowsIdle};
 ghost use Rattle.uart_16550.specs.Io.{Flushes};
-ghost use Rattle.uart_rs485.specs.Bus.{Begins, BusDid, OnDriver, Turns, TriesToFinish};
-ghost use Rattle.uart_rs485.specs.Bus.{unchanged};
+ghost use Rattle.uart_rs485.specs.Bus.{Begins, BusDid, GivesUp, OnDriver, Turns, TriesToFinish};
+ghost use Rattle.uart_rs485.specs.Bus.{receiving, unchanged};
 
 use crate::direction::Direction;
 use crate::errors::BusyError;
@@ -12,6 +12,7 @@ use uart_16550::Uart16550;
 use uart_16550::backend::Backend;
 use uart_16550::embedded_io::Write;
 use uart_spec::StalledError;
+use uart_spec::registers::LSR;
 
 /// A driver at a bus on which one end at a time may send, as RS-485 with two wires.
 ///
@@ -33,8 +34,8 @@ use uart_spec::StalledError;
 /// in the shift register. So somebody polls, or waits for the time that the bytes take.
 ///
 /// Whether the receiver hears what this end sends depends on the board. If it does, as many bytes
-/// as were sent are received: take them by `receive_bytes` between calls that send, before they
-/// overrun the receiver. If other bytes come, two ends sent at once. No call drops received bytes.
+/// as were sent are received: take them by `receive_echo` between calls that send, before they
+/// overrun the receiver. No call drops received bytes.
 ///
 /// Only calls of this type keep the direction, so it lends no driver that could write. For other
 /// calls, as `set_frame`, take the driver back by `into_inner`, and give it to `new` again. So set
@@ -51,6 +52,8 @@ use uart_spec::StalledError;
 /// bus.flush()?;
 /// wait(208);
 /// bus.try_finish()?;
+/// // The answer, until a time of that clock.
+/// bus.receive_bytes_while(&mut answer, &mut deadline)?;
 /// ```
 // There is no model, as there is none of the driver: clauses speak of the fields through
 // `bus_fields` and `driver_of`.
@@ -160,6 +163,32 @@ impl<B: Backend> HalfDuplex<B> {
         Ok(())
     }
 
+    /// Gives the bus back whatever the transmitter does, for one that stays busy: reads LSR and
+    /// MCR, and writes that with the line so that the transceiver receives.
+    ///
+    /// Returns the driver, and LSR as its `lsr` does, which says what may be cut off. With
+    /// `TRANSMITTER_EMPTY` it is nothing; else with `THR_EMPTY` the last byte; else as many of the
+    /// last bytes as the FIFO holds, and one more. What is left in the chip goes on to leave it,
+    /// and nobody hears it: `new` takes the driver once that is over.
+    ///
+    /// Does not wait. Afterwards no error bits are saved.
+    ///
+    /// # Examples
+    ///
+    /// ```
+    /// let (uart, status) = bus.give_up();
+    /// let is_cut_off = !status.contains(LSR::TRANSMITTER_EMPTY);
+    /// ```
+    pub fn give_up(self) -> (Uart16550<B>, LSR)
+        ensures { BusDid B.step (GivesUp result.1.0) self (receiving result.0 self.direction) }
+    {
+        let mut bus = self;
+        // The look is before the switch: what it shows to be sent was sent in time.
+        let status = bus.uart.lsr();
+        bus.turn(false);
+        (bus.uart, status)
+    }
+
     /// Returns whether the transmitter is empty, as `is_idle` of the driver does: reads LSR once.
     ///
     /// Does not wait. The error bits that this clears are saved for the next `lsr`.
@@ -171,7 +200,9 @@ impl<B: Backend> HalfDuplex<B> {
     /// ```
     pub fn is_idle(&mut self) -> bool
         // proved: The other calls are the driver's, and leave the direction
-        // on: `is_idle`, `flush`, `receive_bytes`, `receive_with_errors`, `lsr`
+        // on: `is_idle`, `flush`, `ready_to_receive`, `try_receive_byte`, `receive_bytes`,
+        //   `try_receive_with_errors`, `receive_with_errors`, `receive_bytes_exact`,
+        //   `receive_bytes_while`, `lsr`
         ensures { BusDid B.step (OnDriver (Saving (ShowsIdle result)) unchanged)
             self.old self.new }
     {

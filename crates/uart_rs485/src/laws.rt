@@ -1,8 +1,9 @@
 //! Laws about the direction. They follow from the contracts of the calls, for every device.
 //!
 //! The contract of each function is a law that callers can cite. The functions do nothing.
-ghost use Rattle.uart_rs485.specs.Laws.{CallsKeepDirection, KeepsFromNew, OutputsReceive};
-ghost use Rattle.uart_rs485.specs.Laws.{SwitchesTurn};
+ghost use Rattle.uart_rs485.specs.Laws.{CallsKeepDirection, GivingUpFrees, KeepsFromNew};
+ghost use Rattle.uart_rs485.specs.Laws.{OutputsReceive, SwitchesTurn};
+ghost use Rattle.uart_rs485.specs.Rings.{RingCallsKeepDirection, RingKeepsFromNew};
 
 /// Whatever calls are made, in whatever order: each byte is written while the direction is to send.
 /// And it is switched to receive only behind a look at LSR that showed an empty transmitter, with
@@ -27,6 +28,35 @@ pub fn direction_is_kept()
     ensures from_new { KeepsFromNew }
     // so it is at a bus that is there
     ensures calls { CallsKeepDirection }
+{}
+
+/// So it is with rings at a bus, whatever calls are made, in whatever order: each byte that is
+/// queued is written while the direction is to send, also by an interrupt handler, and the bus is
+/// given back only if none waits.
+pub fn rings_keep_direction()
+    // promise: rings at a bus write no byte while the direction is not to send, whenever interrupts
+    //   are handled, and the program's timer gives the bus back only once all that was queued has
+    //   left the chip
+    // with: rings_keep_direction.from_new, rings_keep_direction.calls
+    // shown by: whatever_rings_at_a_bus_are_asked, a_timer_gives_the_bus_back
+    // refused: rings_queue_in_the_other_direction, rings_finish_while_bytes_wait
+    // at rings that begin with `new`, each byte is written while the direction is to send, and it
+    // is switched to receive only behind a look at LSR that showed an empty transmitter
+    ensures from_new { RingKeepsFromNew }
+    // so it is at rings that are there
+    ensures calls { RingCallsKeepDirection }
+{}
+
+/// After a `give_up` the transceiver receives, whatever the chip shows, and the call wrote no byte.
+/// It is the one call that may cut off what was sent, and there is no bus after it.
+pub fn giving_up_frees_the_bus()
+    // promise: a bus is given back when its program wants it, also by a transmitter that never gets
+    //   empty
+    // with: giving_up_frees_the_bus, give_up
+    // shown by: a_stuck_transmitter_is_given_up
+    // refused: give_up_goes_on_sending, give_up_switches_before_the_look
+    // a `give_up` switches the transceiver to receive, and writes no byte
+    ensures { GivingUpFrees }
 {}
 
 /// What is written to MCR to send makes the transceiver send, and what is written to receive makes

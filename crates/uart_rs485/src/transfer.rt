@@ -1,14 +1,10 @@
-//! The calls that send and receive.
-ghost use Rattle.std.specs.Prelude.{◌≡◌, ◌≤◌, length, take, drop};
-ghost use Rattle.uart_16550.specs.Driver.{Saving};
-ghost use Rattle.uart_16550.specs.Receive.{Receives, ReceivesWithErrors};
+//! The calls that send, and LSR.
 ghost use Rattle.uart_16550.specs.Status.{TakesLsr};
 ghost use Rattle.uart_rs485.specs.Bus.{BusDid, OnDriver, SendsBytes, SendsBytesExact, unchanged};
 
 use crate::bus::HalfDuplex;
 use crate::errors::{NotSendingError, SendError};
 use uart_16550::backend::Backend;
-use uart_spec::Received;
 use uart_spec::registers::LSR;
 
 impl<B: Backend> HalfDuplex<B> {
@@ -66,46 +62,6 @@ impl<B: Backend> HalfDuplex<B> {
             Ok(()) => Ok(()),
             Err(stall) => Err(SendError::Stalled(stall)),
         }
-    }
-
-    /// Receives bytes while some are available and there are free slots, as `receive_bytes` of the
-    /// driver does. Returns how many, and leaves the slots beyond them unchanged.
-    ///
-    /// Does not wait, in either direction. If the receiver hears what this end sends, these bytes
-    /// are among those that are received.
-    ///
-    /// # Examples
-    ///
-    /// ```
-    /// let count = bus.receive_bytes(&mut slots);
-    /// ```
-    pub fn receive_bytes(&mut self, buffer: &mut [u8]) -> usize
-        ensures made { BusDid B.step (OnDriver (Saving (Receives (length buffer.old)
-            (take result buffer.new))) unchanged) self.old self.new }
-        ensures count { result ≤ length buffer.old }
-        ensures rest { drop result buffer.new ≡ drop result buffer.old }
-    {
-        self.uart.receive_bytes(buffer)
-    }
-
-    /// Receives bytes with their errors while some are available and there are free slots, as
-    /// `receive_with_errors` of the driver does.
-    ///
-    /// Does not wait. A byte that was received while two ends sent at once has mostly an error, and
-    /// while no end drives a bus without resistors that hold it there may be errors and breaks.
-    ///
-    /// # Examples
-    ///
-    /// ```
-    /// let count = bus.receive_with_errors(&mut slots);
-    /// ```
-    pub fn receive_with_errors(&mut self, slots: &mut [Received]) -> usize
-        ensures made { BusDid B.step (OnDriver (Saving (ReceivesWithErrors (length slots.old)
-            (take result slots.new))) unchanged) self.old self.new }
-        ensures count { result ≤ length slots.old }
-        ensures rest { drop result slots.new ≡ drop result slots.old }
-    {
-        self.uart.receive_with_errors(slots)
     }
 
     /// Reads LSR, and returns it joined with the error bits that all calls before have cleared in

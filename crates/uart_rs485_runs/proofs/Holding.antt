@@ -1,5 +1,5 @@
 -- At a bus the output makes the transceiver do what MCR was last written for, at each moment.
-use Rattle.std.proofs.Common.{◌≡◌, ◌≢◌, ◌==◌, ◌&&◌, ℕ, Bool, true, false, not, List, [], ◌∷◌, Option, Some, None, Ok, refl, sym, ◌∙◌, ap}
+use Rattle.std.proofs.Common.{◌≡◌, ◌==◌, ◌&&◌, ℕ, Bool, true, false, not, List, [], ◌∷◌, Option, Some, None, refl, sym, ◌∙◌, ap}
 use Rattle.std.proofs.Common.{subst, arith, if◌then◌else◌}
 use Rattle.std.proofs.lemmas.Grind.{common_steps}
 use lib.Bits.{and_zero_r}
@@ -10,7 +10,6 @@ use Rattle.uart_spec.specs.declared.access.Access.TheVariants.{Read, Write}
 use Rattle.uart_spec.specs.declared.registers.line_status.TheConstants.LSR
 use Rattle.uart_spec.specs.declared.registers.modem_control.TheConstants.MCR
 use Rattle.uart_spec.specs.declared.registers.offsets.TheConstants as offsets
-use Rattle.uart_spec.specs.declared.setup.FifoSize.{FifoSize}
 use Rattle.uart_16550.specs.Frame.{unlooped}
 use Rattle.uart_events.specs.declared.event.Event.{Event}
 use Rattle.uart_events.specs.declared.event.Event.TheVariants.{Ticks, Access as Gate, Mark}
@@ -21,7 +20,7 @@ use Rattle.uart_chip.specs.Chip.{ChipState, LatchesState, is_auto_flow, is_dlab_
 use Rattle.uart_chip.specs.Chip.{rts_output, after_read, after_write, ticks}
 use Rattle.uart_chip.specs.Chip as chip
 use Rattle.uart_chip.specs.Machine.{MachineState, MachineStep, perform, at_access}
-use Rattle.uart_chip.proofs.AccessMoves.{ReadMove, takes, read_move, WriteMove, steers, write_lasts, write_move}
+use Rattle.uart_chip.proofs.AccessMoves.{ReadMove, takes, read_move, WriteMove, steers, write_lasts}
 use Rattle.uart_chip.proofs.AutoFlow.{cleared_off}
 use Rattle.uart_chip.proofs.Bits.{has_one}
 use Rattle.uart_chip.proofs.McrBits.{kept_bit, flow_bit}
@@ -29,16 +28,17 @@ use Rattle.uart_chip.proofs.conservation.BlockLaws.{path_as}
 use Rattle.uart_chip.proofs.lasting.Lasting.{Lasts, LastsInEvents, lasts-read, lasts-write, chip_lasts-ticks, chip_lasts-perform}
 use Rattle.uart_chip.proofs.lasting.Lasting.{chip_lasts-before}
 use Rattle.uart_chip.proofs.statuses.Status.{status_empty}
-use Rattle.uart_rs485.specs.Bus.{BusFields, TriesToFinish}
 use Rattle.uart_rs485.specs.Directions.{drives_itself, empty_after_one, sends_after, sends_after_one, sends_by, turned}
 use Rattle.uart_rs485.specs.declared.direction.Direction.{Direction}
 use Rattle.uart_rs485.specs.declared.direction.DirectionLine.{DirectionLine}
 use Rattle.uart_rs485.specs.declared.direction.DirectionLine.TheVariants.{Rts, Dtr}
 use Rattle.uart_rs485.proofs.Allowing.{Allows, AllowsAll}
-use Rattle.uart_rs485.proofs.Keeping.{calls_kept, finish_made}
+use Rattle.uart_rs485.proofs.Keeping.{Finish, calls_kept, finish_made, frees}
+use Rattle.uart_rs485.proofs.RingKeeping as ring
 use Rattle.uart_rs485.proofs.Turning.{switches_turn, unlooped_off}
-use Rattle.uart_rs485_runs.specs.Outputs.{output, sends_by_output, is_sent, IsSwitched, UpToAccess, IsSwitchedThroughout, IsAtBus}
+use Rattle.uart_rs485_runs.specs.Outputs.{sends_by_output, is_sent, IsSwitched, UpToAccess, IsSwitchedThroughout, IsAtBus}
 use Rattle.uart_rs485_runs.specs.Outputs.{BeginsAtBus, EventsStayAtBus, HoldsBus, CallsHoldBus}
+use Rattle.uart_rs485_runs.specs.Outputs.{GivingUpReceives, RingCallsHoldBus, RingsBeginAtBus}
 
 -- ---- an empty transmitter
 
@@ -113,18 +113,19 @@ shown looped flow full bit off still = rw (off, still) (go bit)
 shown_plain : (looped bit : Bool) → looped ≡ false → (not looped && bit) ≡ bit
 shown_plain looped bit off = rw off refl
 
-switched_by : (line : DirectionLine) (set sends : Bool) (c : ChipState) → IsAtBus (record { line = line; sends_when_set = set }) sends c →
-    sends_by_output (record { line = line; sends_when_set = set }) c ≡ sends
-switched_by Rts set sends c w =
+switched_by : (line : DirectionLine) (set sends : Bool) (c : ChipState) →
+    let d : Direction = record { line = line; sends_when_set = set } in
+    sends_by d c.latches.mcr ≡ sends → drives_itself d c.latches.mcr ≡ false → is_loopback c.latches ≡ false → sends_by_output d c ≡ sends
+switched_by Rts set sends c mcr own loopback =
     ap (λ (b : Bool). if b then set else not set) (shown (is_loopback c.latches) (is_auto_flow c) _ (has_any c.latches.mcr MCR.RTS.0)
-    w.loopback (cleared_off c w.own) ∙ sym (has_one 1 c.latches.mcr)) ∙ w.mcr
-switched_by Dtr set sends c w =
-    ap (λ (b : Bool). if b then set else not set) (shown_plain (is_loopback c.latches) (has_any c.latches.mcr MCR.DTR.0) w.loopback
-    ∙ sym (has_one 0 c.latches.mcr)) ∙ w.mcr
+    loopback (cleared_off c own) ∙ sym (has_one 1 c.latches.mcr)) ∙ mcr
+switched_by Dtr set sends c mcr own loopback =
+    ap (λ (b : Bool). if b then set else not set) (shown_plain (is_loopback c.latches) (has_any c.latches.mcr MCR.DTR.0) loopback
+    ∙ sym (has_one 0 c.latches.mcr)) ∙ mcr
 
 is_switched : (d : Direction) (sends : Bool) (c : ChipState) → IsAtBus d sends c → IsSwitched d sends c
 is_switched d sends c w =
-    let by = switched_by d.line d.sends_when_set sends c w in
+    let by = switched_by d.line d.sends_when_set sends c w.mcr w.own w.loopback in
     record { direction = by; whole = λ busy. by ∙ go sends w.sent busy }
   where
     go : (sends : Bool) → (sends ≡ false → is_sent c ≡ true) → is_sent c ≡ false → sends ≡ true
@@ -287,18 +288,25 @@ hold d sends empty (access ∷ l) m n t path k =
     stepped (Read offset value) m mid t step there = rw (step.0, step.1) (known_read d sends empty offset (at_access m).chip there)
     stepped (Write offset value) m mid t step there = rw step (known_write d sends empty offset value (at_access m).chip t there)
 
+holds : (d : Direction) (before after : Bool) (l : List Access) (m n : MachineState) → AllowsAll d before false l →
+    after ≡ sends_after d before l → (path : Path MachineStep m l n) → IsAtBus d before m.chip → HoldsBus d before after l m n path
+holds d before after l m n allows sends path w =
+    let h = hold d before false l m n allows path (record { at_bus = w; knows = λ is. absurd (cc) }) in
+    record { throughout = h.0; at_bus = subst (λ (sends : Bool). IsAtBus d sends n.chip) (sym sends) h.1 }
+
 pub calls_hold_bus : CallsHoldBus
 calls_hold_bus calls f after l m n t path w =
-    let kept = calls_kept calls f l after t in
-    let h = hold f.direction f.sends false l m n kept.allows path (record { at_bus = w; knows = λ is. absurd (cc) }) in
-    record { throughout = h.0; at_bus = subst (λ (sends : Bool). IsAtBus f.direction sends n.chip) (sym kept.sends) h.1 }
+    let kept = calls_kept calls f l after t in holds f.direction f.sends after.sends l m n kept.allows kept.sends path w
+
+pub ring_calls_hold_bus : RingCallsHoldBus
+ring_calls_hold_bus calls f after l m n t waits path w =
+    let kept = ring.calls_kept calls f l after waits t in holds f.direction f.sends after.sends l m n kept.allows kept.sends path w
 
 -- ---- `new`
 
 -- LSR shows an empty transmitter, MCR is read, and written to receive
-pub begins_at_bus : BeginsAtBus
-begins_at_bus d driver l mid m n t path =
-    let made = finish_made _ l mid t in
+finish_at_bus : (d : Direction) (l : List Access) (m n : MachineState) → Finish d l → Path MachineStep m l n → IsAtBus d false n.chip
+finish_at_bus d l m n made path =
     let p = path_as m n l _ made.is path in
     let looked = (at_access m).chip in
     let empty : IsEmpty looked.transmitter =
@@ -322,3 +330,21 @@ begins_at_bus d driver l mid m n t path =
         let written : IsAtBus d (sends_by d value) (after_write offsets.MCR value (at_access b).chip) =
         steered d false true value (at_access b).chip (λ off. refl) turns.1 (unlooped_off (turned d false mcr)) (λ is. later b there) in
         rw (path.2, path.1) (subst (λ (sends : Bool). IsAtBus d sends (after_write offsets.MCR value (at_access b).chip)) turns.0 written)
+
+pub begins_at_bus : BeginsAtBus
+begins_at_bus d driver l mid m n t path = finish_at_bus d l m n (finish_made _ l mid t) path
+
+pub rings_begin_at_bus : RingsBeginAtBus
+rings_begin_at_bus d f l mid m n t path = finish_at_bus d l m n (ring.ring_finish_made _ l mid t) path
+
+-- ---- `give_up`
+
+pub given_up_receives : GivingUpReceives
+given_up_receives status f after l m n t path =
+    let made = frees status f l after t in
+    let p = path_as m n l _ made.is path in
+    let c = (at_access p.2.0).chip in
+    rw (p.2.2.2, p.2.2.1) (switched_by f.direction.line f.direction.sends_when_set false (after_write offsets.MCR made.written c)
+    (kept_sends f.direction.line f.direction.sends_when_set c.auto_flow made.written ∙ made.receives.0)
+    (kept_own f.direction.line f.direction.sends_when_set c.auto_flow made.written made.receives.1)
+    (kept_bit c.auto_flow 4 made.written refl refl ∙ made.loopback))

@@ -9,9 +9,11 @@ use Rattle.uart_events.specs.declared.event.Event.{Event}
 use Rattle.uart_events.specs.declared.event.Event.TheVariants.{Ticks, Access as Gate, Mark}
 use Rattle.uart_chip.specs.Chip.{ChipState, is_loopback, is_transmitter_empty, rts_output, tick, ticks}
 use Rattle.uart_chip.specs.Machine.{MachineState, MachineStep, perform}
-use Rattle.uart_rs485.specs.Bus.{BusFields, TriesToFinish}
+use Rattle.uart_ring.specs.Ring.{RingFields}
+use Rattle.uart_rs485.specs.Bus.{BusFields, GivesUp, TriesToFinish}
 use Rattle.uart_rs485.specs.Directions.{drives_itself, sends_after_one, sends_by}
 use Rattle.uart_rs485.specs.Laws.{BusCall, DoesCalls}
+use Rattle.uart_rs485.specs.Rings.{DoesRingCalls, RingBusCall, RingBusFields, RingTriesToFinish, WaitsToSend}
 use Rattle.uart_rs485.specs.declared.direction.Direction.{Direction}
 use Rattle.uart_rs485.specs.declared.direction.DirectionLine.{DirectionLine}
 use Rattle.uart_rs485.specs.declared.direction.DirectionLine.TheVariants.{Rts, Dtr}
@@ -86,13 +88,37 @@ EventsStayAtBus = (d : Direction) (sends : Bool) (event : Event) (c : ChipState)
 
 -- calls, in any order: the transceiver is switched as they ask for at each moment of each, and after them the bus is
 -- taken to be sending exactly if it is
-pub record HoldsBus (f : BusFields) (l : List Access) (after : BusFields) (m n : MachineState)
+pub record HoldsBus (d : Direction) (before after : Bool) (l : List Access) (m n : MachineState)
     (path : Path MachineStep m l n) : Type 0 where
   -- at each moment
-  pub throughout : IsSwitchedThroughout f.direction f.sends l m n path
-  pub at_bus : IsAtBus f.direction after.sends n.chip
+  pub throughout : IsSwitchedThroughout d before l m n path
+  pub at_bus : IsAtBus d after n.chip
 
 abbrev pub CallsHoldBus : Type 0
 CallsHoldBus = (calls : List BusCall) (f after : BusFields) (l : List Access) (m n : MachineState) →
     DoesCalls calls f l after → (path : Path MachineStep m l n) → IsAtBus f.direction f.sends m.chip →
-    HoldsBus f l after m n path
+    HoldsBus f.direction f.sends after.sends l m n path
+
+-- after a `give_up` the output makes the transceiver receive, whatever the chip was before
+abbrev pub GivingUpReceives : Type 0
+GivingUpReceives = (status : ℕ) (f after : BusFields) (l : List Access) (m n : MachineState) →
+    -- LSR is read, and the transceiver is switched to receive
+    GivesUp status f l after →
+    Path MachineStep m l n → sends_by_output f.direction n.chip ≡ false
+
+-- ---- calls of rings
+
+-- after a `new` of rings at a bus that succeeds, whatever the chip was before, the transceiver receives
+abbrev pub RingsBeginAtBus : Type 0
+RingsBeginAtBus = (d : Direction) (f : RingFields) (l : List Access) (mid : RingBusFields) (m n : MachineState) →
+    RingTriesToFinish {T = Unit {0}} (Ok tt) (record { rings = f; direction = d; sends = true }) l mid →
+    Path MachineStep m l n → IsAtBus d false n.chip
+
+-- calls of rings at a bus, in any order: the transceiver is switched as they ask for at each moment of each
+abbrev pub RingCallsHoldBus : Type 0
+RingCallsHoldBus = (calls : List RingBusCall) (f after : RingBusFields) (l : List Access) (m n : MachineState) →
+    DoesRingCalls calls f l after →
+    -- while the direction is not to send, no byte waits
+    WaitsToSend f →
+    (path : Path MachineStep m l n) → IsAtBus f.direction f.sends m.chip →
+    HoldsBus f.direction f.sends after.sends l m n path

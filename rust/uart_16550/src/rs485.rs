@@ -13,21 +13,32 @@
 //! use uart_16550::rs485::{Direction, DirectionLine, HalfDuplex};
 //! use uart_16550::spec::registers::MCR;
 //!
-//! # struct Cells([u8; 8]);
+//! # // A remote that answers with what it was asked, once the transceiver is switched to receive.
+//! # #[derive(Default)]
+//! # struct Cells {
+//! #     cells: [u8; 8],
+//! #     asked: std::collections::VecDeque<u8>,
+//! # }
 //! # impl Backend for Cells {
 //! #     fn read(&mut self, offset: u8) -> u8 {
 //! #         match offset {
+//! #             0 if self.cells[3] & 0x80 == 0 => self.asked.pop_front().unwrap_or(0),
 //! #             2 => 0xc1, // no interrupt is pending, and the FIFO is on
-//! #             5 => 0x60, // the transmitter is empty
-//! #             _ => self.0[offset as usize],
+//! #             5 => 0x60 | u8::from(self.cells[4] & 2 == 0 && !self.asked.is_empty()), // the transmitter is empty
+//! #             _ => self.cells[offset as usize],
 //! #         }
 //! #     }
 //! #     fn write(&mut self, offset: u8, value: u8) {
-//! #         self.0[offset as usize] = value;
+//! #         match offset {
+//! #             0 if self.cells[3] & 0x80 == 0 && self.cells[4] & 2 != 0 => self.asked.push_back(value),
+//! #             _ => self.cells[offset as usize] = value,
+//! #         }
 //! #     }
 //! # }
-//! # let backend = Cells([0; 8]);
-//! # let wait = |_microseconds: u32| {};
+//! # let backend = Cells::default();
+//! # let time = std::cell::Cell::new(0_u64);
+//! # let wait = |microseconds: u64| time.set(time.get() + microseconds);
+//! # let now = || { wait(1); time.get() };
 //! // The transceiver sends while the bit RTS is set.
 //! let direction = Direction { line: DirectionLine::Rts, sends_when_set: true };
 //!
@@ -37,7 +48,7 @@
 //! uart.init_with(Config::DEFAULT, &setup)?;
 //! let mut bus = HalfDuplex::new(uart, direction).map_err(|(_uart, error)| error)?;
 //!
-//! // A question. `wait` waits by a clock of this program, in microseconds.
+//! // A question. `wait` waits by a clock of this program, and `now` tells its time, in microseconds.
 //! bus.start_sending();
 //! wait(10);
 //! bus.send_bytes_exact(b"question")?;
@@ -45,11 +56,23 @@
 //! wait(208); // two bits at 9,600 baud
 //! bus.try_finish()?;
 //!
-//! // And its answer.
-//! let mut answer = [0; 16];
-//! let count = bus.receive_bytes(&mut answer);
-//! # assert_eq!(count, 0);
+//! // And its answer, which has 50 milliseconds to come.
+//! let end = now() + 50_000;
+//! let mut answer = [0; 8];
+//! bus.receive_bytes_while(&mut answer, &mut || now() < end)?;
+//! assert_eq!(&answer, b"question");
+//!
+//! // No other comes: the wait ends in time, with how many bytes there were.
+//! let end = now() + 50_000;
+//! let none = bus.receive_bytes_while(&mut answer, &mut || now() < end).unwrap_err();
+//! assert_eq!(none.done, 0);
 //! # Ok::<(), Box<dyn std::error::Error>>(())
 //! ```
+//!
+//! A transceiver that hears itself puts what is sent into the receiver: `receive_echo` takes it out behind each `send_bytes`,
+//! and tells if it is another. A transmitter that never gets empty would hold the bus for ever: `give_up` gives it back.
+//!
+//! [`HalfDuplexRing`] is such a bus over [rings](crate::ring): an interrupt handler sends and receives, and a timer of the
+//! program gives the bus back.
 
-pub use uart_rs485::{BusyError, Direction, DirectionLine, HalfDuplex, NotSendingError, SendError};
+pub use uart_rs485::{BusyError, Direction, DirectionLine, EchoError, HalfDuplex, HalfDuplexRing, NotSendingError, SendError};

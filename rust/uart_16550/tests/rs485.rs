@@ -3,7 +3,7 @@
 use std::error::Error;
 use uart_16550::native::backend::Backend;
 use uart_16550::native::{Config, Setup, StalledError, Uart16550};
-use uart_16550::rs485::{BusyError, Direction, DirectionLine, HalfDuplex, NotSendingError, SendError};
+use uart_16550::rs485::{BusyError, Direction, DirectionLine, EchoError, HalfDuplex, NotSendingError, SendError};
 use uart_16550::spec::registers::MCR;
 
 /// Registers of which LSR shows what it is told, and the writes of DATA and MCR.
@@ -74,6 +74,12 @@ fn errors_have_texts_and_the_bus_may_go_to_another_thread() {
     assert_eq!(is_error(SendError::NotSending), "the direction is not to send");
     let stalled = SendError::Stalled(StalledError { done: 3 });
     assert_eq!(is_error(stalled), "the device stalled after 3 bytes");
+    assert_eq!(is_error(EchoError::Silent { done: 3 }), "no echo came after 3 bytes");
+    let differs = EchoError::Differs {
+        done: 3,
+        heard: 0x0f,
+    };
+    assert_eq!(is_error(differs), "the echo has 0x0f after 3 bytes, which was not sent there");
     goes_to_a_thread::<HalfDuplex<Device>>();
     assert!(format!("{DIRECTION:?}").contains("Rts"));
 }

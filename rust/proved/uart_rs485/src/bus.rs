@@ -6,6 +6,7 @@ use uart_16550::Uart16550;
 use uart_16550::backend::Backend;
 use uart_16550::embedded_io::Write;
 use uart_spec::StalledError;
+use uart_spec::registers::LSR;
 
 /// A driver at a bus on which one end at a time may send, as RS-485 with two wires.
 ///
@@ -27,8 +28,8 @@ use uart_spec::StalledError;
 /// in the shift register. So somebody polls, or waits for the time that the bytes take.
 ///
 /// Whether the receiver hears what this end sends depends on the board. If it does, as many bytes
-/// as were sent are received: take them by `receive_bytes` between calls that send, before they
-/// overrun the receiver. If other bytes come, two ends sent at once. No call drops received bytes.
+/// as were sent are received: take them by `receive_echo` between calls that send, before they
+/// overrun the receiver. No call drops received bytes.
 ///
 /// Only calls of this type keep the direction, so it lends no driver that could write. For other
 /// calls, as `set_frame`, take the driver back by `into_inner`, and give it to `new` again. So set
@@ -40,8 +41,8 @@ use uart_spec::StalledError;
 /// ```
 /// # include!(concat!(env!("CARGO_MANIFEST_DIR"), "/examples.rs"));
 /// # fn main() {}
-/// # use facade::rs485::*;
-/// # fn example(bus: &mut HalfDuplex<Device>, wait: fn(u32)) -> Outcome<()> {
+/// # use facade::{ring::{self, MAX_INTERRUPTS}, rs485::*};
+/// # fn example(bus: &mut HalfDuplex<Device>, wait: fn(u32), mut answer: [u8; 4], mut deadline: fn() -> bool) -> Outcome<()> {
 /// // `wait` is a wait of this program's clock, in microseconds.
 /// bus.start_sending();
 /// wait(10);
@@ -49,6 +50,8 @@ use uart_spec::StalledError;
 /// bus.flush()?;
 /// wait(208);
 /// bus.try_finish()?;
+/// // The answer, until a time of that clock.
+/// bus.receive_bytes_while(&mut answer, &mut deadline)?;
 /// # Ok(()) }
 /// ```
 // There is no model, as there is none of the driver: clauses speak of the fields through
@@ -77,7 +80,7 @@ impl<B: Backend> HalfDuplex<B> {
     /// ```
     /// # include!(concat!(env!("CARGO_MANIFEST_DIR"), "/examples.rs"));
     /// # fn main() {}
-    /// # use facade::rs485::*;
+    /// # use facade::{ring::{self, MAX_INTERRUPTS}, rs485::*};
     /// # fn example(uart: Uart16550<Device>, direction: Direction) -> Outcome<()> {
     /// let mut bus = match HalfDuplex::new(uart, direction) {
     ///     Ok(bus) => bus,
@@ -132,7 +135,7 @@ impl<B: Backend> HalfDuplex<B> {
     /// ```
     /// # include!(concat!(env!("CARGO_MANIFEST_DIR"), "/examples.rs"));
     /// # fn main() {}
-    /// # use facade::rs485::*;
+    /// # use facade::{ring::{self, MAX_INTERRUPTS}, rs485::*};
     /// # fn example(bus: &mut HalfDuplex<Device>) -> Outcome<()> {
     /// bus.start_sending();
     /// assert!(bus.is_sending());
@@ -173,7 +176,7 @@ impl<B: Backend> HalfDuplex<B> {
     /// ```
     /// # include!(concat!(env!("CARGO_MANIFEST_DIR"), "/examples.rs"));
     /// # fn main() {}
-    /// # use facade::rs485::*;
+    /// # use facade::{ring::{self, MAX_INTERRUPTS}, rs485::*};
     /// # fn example(bus: &mut HalfDuplex<Device>) -> Outcome<()> {
     /// bus.try_finish()?;
     /// assert!(!bus.is_sending());
@@ -203,6 +206,52 @@ impl<B: Backend> HalfDuplex<B> {
         Ok(())
     }
 
+    /// Gives the bus back whatever the transmitter does, for one that stays busy: reads LSR and
+    /// MCR, and writes that with the line so that the transceiver receives.
+    ///
+    /// Returns the driver, and LSR as its `lsr` does, which says what may be cut off. With
+    /// `TRANSMITTER_EMPTY` it is nothing; else with `THR_EMPTY` the last byte; else as many of the
+    /// last bytes as the FIFO holds, and one more. What is left in the chip goes on to leave it,
+    /// and nobody hears it: `new` takes the driver once that is over.
+    ///
+    /// Does not wait. Afterwards no error bits are saved.
+    ///
+    /// # Examples
+    ///
+    /// ```
+    /// # include!(concat!(env!("CARGO_MANIFEST_DIR"), "/examples.rs"));
+    /// # fn main() {}
+    /// # use facade::{ring::{self, MAX_INTERRUPTS}, rs485::*};
+    /// # fn example(bus: HalfDuplex<Device>) -> Outcome<()> {
+    /// let (uart, status) = bus.give_up();
+    /// let is_cut_off = !status.contains(LSR::TRANSMITTER_EMPTY);
+    /// # Ok(()) }
+    /// ```
+    ///
+    /// # Proved
+    ///
+    /// - [`BusDid`](crate::proved::bus#BusDid) `B.step (GivesUp result.1.0) self (receiving result.0 self.direction)`: the call did this, on a path of the backend's steps.
+    ///   - [`GivesUp`](crate::proved::bus#GivesUp): one read of LSR, which is returned joined with the saved bits, and the transceiver is switched to receive, whatever LSR shows.
+    ///   - [`receiving`](crate::proved::bus#receiving): a driver at a bus that receives.
+    ///
+    /// <details><summary>The clauses</summary>
+    ///
+    /// [How to read them](uart_spec::proved):
+    ///
+    /// ```text
+    /// ensures { BusDid B.step (GivesUp result.1.0) self (receiving result.0 self.direction) }
+    /// ```
+    ///
+    /// </details>
+    #[must_use]
+    pub fn give_up(self) -> (Uart16550<B>, LSR) {
+        let mut bus = self;
+        // The look is before the switch: what it shows to be sent was sent in time.
+        let status = bus.uart.lsr();
+        bus.turn(false);
+        (bus.uart, status)
+    }
+
     /// Returns whether the transmitter is empty, as `is_idle` of the driver does: reads LSR once.
     ///
     /// Does not wait. The error bits that this clears are saved for the next `lsr`.
@@ -212,7 +261,7 @@ impl<B: Backend> HalfDuplex<B> {
     /// ```
     /// # include!(concat!(env!("CARGO_MANIFEST_DIR"), "/examples.rs"));
     /// # fn main() {}
-    /// # use facade::rs485::*;
+    /// # use facade::{ring::{self, MAX_INTERRUPTS}, rs485::*};
     /// # fn example(bus: &mut HalfDuplex<Device>) -> Outcome<()> {
     /// assert!(bus.is_idle());
     /// # Ok(()) }
@@ -250,7 +299,7 @@ impl<B: Backend> HalfDuplex<B> {
     /// ```
     /// # include!(concat!(env!("CARGO_MANIFEST_DIR"), "/examples.rs"));
     /// # fn main() {}
-    /// # use facade::rs485::*;
+    /// # use facade::{ring::{self, MAX_INTERRUPTS}, rs485::*};
     /// # fn example(bus: &mut HalfDuplex<Device>) -> Outcome<()> {
     /// bus.flush()?;
     /// # Ok(()) }

@@ -89,7 +89,7 @@ impl Direction {
     /// ```
     /// # include!(concat!(env!("CARGO_MANIFEST_DIR"), "/examples.rs"));
     /// # fn main() {}
-    /// # use facade::rs485::*;
+    /// # use facade::{ring::{self, MAX_INTERRUPTS}, rs485::*};
     /// # fn example(uart: &mut Uart16550<Device>, direction: Direction) -> Outcome<()> {
     /// let setup = Setup {
     ///     outputs: direction.receiving(MCR::READY),

@@ -34,6 +34,44 @@ impl std::fmt::Display for NotSendingError {
 #[automatically_derived]
 impl std::error::Error for NotSendingError {}
 
+/// Why not all of the echo was heard.
+#[derive(Clone, Copy, Debug, PartialEq, Eq, Hash)]
+pub enum EchoError {
+    /// Another byte was heard than was sent: two ends sent at once, or the bus is disturbed.
+    Differs {
+        /// How many bytes were heard as they were sent.
+        done: usize,
+        /// What was heard then.
+        heard: u8,
+    },
+    /// A wait for a byte ended at the spin limit.
+    Silent {
+        /// How many bytes were heard as they were sent.
+        done: usize,
+    },
+}
+
+#[automatically_derived]
+impl std::fmt::Display for EchoError {
+    fn fmt(&self, f: &mut std::fmt::Formatter<'_>) -> std::fmt::Result {
+        match self {
+            Self::Differs { done, heard } => {
+                ({
+                    (f.write_fmt(format_args!(
+                        "the echo has {heard:#04x} after {done} bytes, which was not sent there"
+                    )))
+                })
+            }
+            Self::Silent { done } => {
+                ({ (f.write_fmt(format_args!("no echo came after {done} bytes"))) })
+            }
+        }
+    }
+}
+
+#[automatically_derived]
+impl std::error::Error for EchoError {}
+
 /// Why not all bytes were sent.
 #[derive(Clone, Debug, PartialEq, Eq, Hash)]
 pub enum SendError {

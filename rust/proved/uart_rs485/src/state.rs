@@ -13,7 +13,7 @@ impl<B: Backend> HalfDuplex<B> {
     /// ```
     /// # include!(concat!(env!("CARGO_MANIFEST_DIR"), "/examples.rs"));
     /// # fn main() {}
-    /// # use facade::rs485::*;
+    /// # use facade::{ring::{self, MAX_INTERRUPTS}, rs485::*};
     /// # fn example(bus: &mut HalfDuplex<Device>) -> Outcome<()> {
     /// assert!(!bus.is_sending());
     /// # Ok(()) }
@@ -45,7 +45,7 @@ impl<B: Backend> HalfDuplex<B> {
     /// ```
     /// # include!(concat!(env!("CARGO_MANIFEST_DIR"), "/examples.rs"));
     /// # fn main() {}
-    /// # use facade::rs485::*;
+    /// # use facade::{ring::{self, MAX_INTERRUPTS}, rs485::*};
     /// # fn example(bus: &mut HalfDuplex<Device>, direction: Direction) -> Outcome<()> {
     /// assert_eq!(bus.direction(), direction);
     /// # Ok(()) }
@@ -77,7 +77,7 @@ impl<B: Backend> HalfDuplex<B> {
     /// ```
     /// # include!(concat!(env!("CARGO_MANIFEST_DIR"), "/examples.rs"));
     /// # fn main() {}
-    /// # use facade::rs485::*;
+    /// # use facade::{ring::{self, MAX_INTERRUPTS}, rs485::*};
     /// # fn example(bus: &mut HalfDuplex<Device>) -> Outcome<()> {
     /// let limit = bus.inner().spin_limit();
     /// # Ok(()) }
@@ -108,7 +108,7 @@ impl<B: Backend> HalfDuplex<B> {
     /// ```
     /// # include!(concat!(env!("CARGO_MANIFEST_DIR"), "/examples.rs"));
     /// # fn main() {}
-    /// # use facade::rs485::*;
+    /// # use facade::{ring::{self, MAX_INTERRUPTS}, rs485::*};
     /// # fn example(bus: HalfDuplex<Device>) -> Outcome<()> {
     /// let uart = bus.into_inner();
     /// # Ok(()) }

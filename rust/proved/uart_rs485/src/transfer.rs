@@ -1,9 +1,8 @@
-//! The calls that send and receive.
+//! The calls that send, and LSR.
 
 use crate::bus::HalfDuplex;
 use crate::errors::{NotSendingError, SendError};
 use uart_16550::backend::Backend;
-use uart_spec::Received;
 use uart_spec::registers::LSR;
 
 impl<B: Backend> HalfDuplex<B> {
@@ -21,7 +20,7 @@ impl<B: Backend> HalfDuplex<B> {
     /// ```
     /// # include!(concat!(env!("CARGO_MANIFEST_DIR"), "/examples.rs"));
     /// # fn main() {}
-    /// # use facade::rs485::*;
+    /// # use facade::{ring::{self, MAX_INTERRUPTS}, rs485::*};
     /// # fn example(bus: &mut HalfDuplex<Device>, bytes: &[u8]) -> Outcome<()> {
     /// let sent = bus.send_bytes(bytes)?;
     /// let rest = &bytes[sent..];
@@ -65,7 +64,7 @@ impl<B: Backend> HalfDuplex<B> {
     /// ```
     /// # include!(concat!(env!("CARGO_MANIFEST_DIR"), "/examples.rs"));
     /// # fn main() {}
-    /// # use facade::rs485::*;
+    /// # use facade::{ring::{self, MAX_INTERRUPTS}, rs485::*};
     /// # fn example(bus: &mut HalfDuplex<Device>) -> Outcome<()> {
     /// bus.send_bytes_exact(b"question")?;
     /// # Ok(()) }
@@ -94,88 +93,6 @@ impl<B: Backend> HalfDuplex<B> {
         }
     }
 
-    /// Receives bytes while some are available and there are free slots, as `receive_bytes` of the
-    /// driver does. Returns how many, and leaves the slots beyond them unchanged.
-    ///
-    /// Does not wait, in either direction. If the receiver hears what this end sends, these bytes
-    /// are among those that are received.
-    ///
-    /// # Examples
-    ///
-    /// ```
-    /// # include!(concat!(env!("CARGO_MANIFEST_DIR"), "/examples.rs"));
-    /// # fn main() {}
-    /// # use facade::rs485::*;
-    /// # fn example(bus: &mut HalfDuplex<Device>, mut slots: [u8; 4]) -> Outcome<()> {
-    /// let count = bus.receive_bytes(&mut slots);
-    /// # Ok(()) }
-    /// ```
-    ///
-    /// # Proved
-    ///
-    /// - *made*: [does as](crate::proved::bus#BusDid) [`OnDriver`](crate::proved::bus#OnDriver): the driver does this, and of the other fields only this changes.
-    ///   - [`Saving`](uart_16550::proved::driver#Saving): a list of the language whose reads are saved.
-    ///   - [`Receives`](uart_16550::proved::receive#Receives): bytes are read from DATA, each after LSR shows it, until the slots are full, or LSR shows none.
-    ///   - [`unchanged`](crate::proved::bus#unchanged): the fields as they are; with another driver; with this direction.
-    /// - *count*: `result ≤ length buffer.old`.
-    /// - *rest*: `drop result buffer.new ≡ drop result buffer.old`.
-    ///
-    /// <details><summary>The clauses</summary>
-    ///
-    /// [How to read them](uart_spec::proved):
-    ///
-    /// ```text
-    /// ensures made { BusDid B.step (OnDriver (Saving (Receives (length buffer.old) (take result buffer.new))) unchanged) self.old self.new }
-    /// ensures count { result ≤ length buffer.old }
-    /// ensures rest { drop result buffer.new ≡ drop result buffer.old }
-    /// ```
-    ///
-    /// </details>
-    pub fn receive_bytes(&mut self, buffer: &mut [u8]) -> usize {
-        self.uart.receive_bytes(buffer)
-    }
-
-    /// Receives bytes with their errors while some are available and there are free slots, as
-    /// `receive_with_errors` of the driver does.
-    ///
-    /// Does not wait. A byte that was received while two ends sent at once has mostly an error, and
-    /// while no end drives a bus without resistors that hold it there may be errors and breaks.
-    ///
-    /// # Examples
-    ///
-    /// ```
-    /// # include!(concat!(env!("CARGO_MANIFEST_DIR"), "/examples.rs"));
-    /// # fn main() {}
-    /// # use facade::rs485::*;
-    /// # fn example(bus: &mut HalfDuplex<Device>, mut slots: [Received; 4]) -> Outcome<()> {
-    /// let count = bus.receive_with_errors(&mut slots);
-    /// # Ok(()) }
-    /// ```
-    ///
-    /// # Proved
-    ///
-    /// - *made*: [does as](crate::proved::bus#BusDid) [`OnDriver`](crate::proved::bus#OnDriver): the driver does this, and of the other fields only this changes.
-    ///   - [`Saving`](uart_16550::proved::driver#Saving): a list of the language whose reads are saved.
-    ///   - [`ReceivesWithErrors`](uart_16550::proved::receive#ReceivesWithErrors): bytes are read from DATA, each after LSR shows it and its errors, until the slots are full, or LSR shows none.
-    ///   - [`unchanged`](crate::proved::bus#unchanged): the fields as they are; with another driver; with this direction.
-    /// - *count*: `result ≤ length slots.old`.
-    /// - *rest*: `drop result slots.new ≡ drop result slots.old`.
-    ///
-    /// <details><summary>The clauses</summary>
-    ///
-    /// [How to read them](uart_spec::proved):
-    ///
-    /// ```text
-    /// ensures made { BusDid B.step (OnDriver (Saving (ReceivesWithErrors (length slots.old) (take result slots.new))) unchanged) self.old self.new }
-    /// ensures count { result ≤ length slots.old }
-    /// ensures rest { drop result slots.new ≡ drop result slots.old }
-    /// ```
-    ///
-    /// </details>
-    pub fn receive_with_errors(&mut self, slots: &mut [Received]) -> usize {
-        self.uart.receive_with_errors(slots)
-    }
-
     /// Reads LSR, and returns it joined with the error bits that all calls before have cleared in
     /// the chip, as `lsr` of the driver does. Afterwards no error bits are saved.
     ///
@@ -184,7 +101,7 @@ impl<B: Backend> HalfDuplex<B> {
     /// ```
     /// # include!(concat!(env!("CARGO_MANIFEST_DIR"), "/examples.rs"));
     /// # fn main() {}
-    /// # use facade::rs485::*;
+    /// # use facade::{ring::{self, MAX_INTERRUPTS}, rs485::*};
     /// # fn example(bus: &mut HalfDuplex<Device>) -> Outcome<()> {
     /// let had_errors = bus.lsr().has_error();
     /// # Ok(()) }

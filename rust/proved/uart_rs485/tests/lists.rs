@@ -1,7 +1,7 @@
 //! Each call over a replay, with lists of accesses that were written down by hand.
 
 use proved_uart_rs485::{
-    BusyError, Direction, DirectionLine, HalfDuplex, NotSendingError, SendError,
+    BusyError, Direction, DirectionLine, EchoError, HalfDuplex, NotSendingError, SendError,
 };
 use std::num::NonZeroU64;
 use uart_16550::Uart16550;
@@ -9,7 +9,7 @@ use uart_calls::replay::Replay;
 use uart_spec::access::Access::{self, Read, Write};
 use uart_spec::registers::offsets::{DATA, LSR, MCR};
 use uart_spec::registers::{self, MCR as Outputs};
-use uart_spec::{Received, StalledError};
+use uart_spec::{ByteReceiveError, Received, StalledError};
 
 /// LSR: the transmitter is empty.
 const EMPTY: u8 = 0x60;
@@ -201,6 +201,138 @@ fn errors_are_passed_on() {
         assert_eq!(bus.lsr().bits(), EMPTY | 0x08 | 0x02 | 0x04);
         assert_eq!(bus.lsr().bits(), EMPTY);
     });
+}
+
+/// LSR: the transmitter is empty, and a byte is available.
+const DATA_READY: u8 = 0x61;
+
+#[test]
+fn an_answer_is_waited_for() {
+    let calls = [
+        Read(LSR, EMPTY),
+        Read(LSR, DATA_READY),
+        Read(DATA, b'o'),
+        Read(LSR, DATA_READY),
+        Read(DATA, b'k'),
+        Read(LSR, EMPTY),
+        Read(LSR, DATA_READY),
+        Read(DATA, b'!'),
+        Read(LSR, EMPTY),
+        Read(LSR, EMPTY),
+    ];
+    play(RTS, &NEW, &calls, |bus| {
+        let mut slots = [0xee; 2];
+        assert_eq!(bus.receive_bytes_exact(&mut slots), Ok(()));
+        assert_eq!(slots, *b"ok");
+        // Two polls more are in the time that there is.
+        let mut asked = 0;
+        let mut slots = [0xee; 3];
+        let answer = bus.receive_bytes_while(&mut slots, &mut || {
+            asked += 1;
+            asked < 3
+        });
+        assert_eq!(answer, Err(StalledError { done: 1 }));
+        assert_eq!(slots, [b'!', 0xee, 0xee]);
+        assert_eq!(asked, 3);
+        assert!(!bus.is_sending());
+    });
+}
+
+#[test]
+fn an_answer_that_does_not_come_ends_at_the_limit() {
+    let answers = [EMPTY, 0x09, DATA_READY, b'a', EMPTY, EMPTY];
+    let mut uart = driver(&answers);
+    uart.set_spin_limit(NonZeroU64::new(2).unwrap());
+    let Ok(mut bus) = HalfDuplex::new(uart, RTS) else {
+        panic!("the transmitter is empty");
+    };
+    let mut slots = [0xee; 3];
+    assert_eq!(bus.receive_bytes_exact(&mut slots), Err(StalledError { done: 1 }));
+    assert_eq!(slots, [b'a', 0xee, 0xee]);
+    assert_eq!(bus.inner().backend().accesses().map(<[Access]>::len), Some(3 + 4));
+}
+
+#[test]
+fn one_byte_is_received_if_it_is_there() {
+    let calls = [
+        Read(LSR, EMPTY),
+        Read(LSR, 0x6b),
+        Read(LSR, DATA_READY),
+        Read(DATA, b'a'),
+        Read(LSR, EMPTY),
+        Read(LSR, 0x65),
+        Read(DATA, b'b'),
+        Read(LSR, EMPTY),
+        Read(LSR, EMPTY),
+    ];
+    play(RTS, &NEW, &calls, |bus| {
+        assert_eq!(bus.ready_to_receive(), Err(ByteReceiveError));
+        assert_eq!(bus.ready_to_receive(), Ok(()));
+        assert_eq!(bus.try_receive_byte(), Ok(b'a'));
+        assert_eq!(bus.try_receive_byte(), Err(ByteReceiveError));
+        let errors = registers::LSR::PARITY_ERROR;
+        assert_eq!(bus.try_receive_with_errors(), Ok(Received { byte: b'b', errors }));
+        assert_eq!(bus.try_receive_with_errors(), Err(ByteReceiveError));
+        assert_eq!(bus.lsr().bits(), EMPTY | 0x0a | 0x04);
+    });
+}
+
+#[test]
+fn an_echo_is_compared() {
+    let calls = [
+        Read(MCR, 0x09),
+        Write(MCR, 0x0b),
+        Read(LSR, EMPTY),
+        Write(DATA, b'h'),
+        Write(DATA, b'i'),
+        Read(LSR, ROOM),
+        Read(LSR, DATA_READY),
+        Read(DATA, b'h'),
+        Read(LSR, DATA_READY),
+        Read(DATA, b'i'),
+        Read(LSR, DATA_READY),
+        Read(DATA, b'h'),
+        Read(LSR, DATA_READY),
+        Read(DATA, b'o'),
+    ];
+    play(RTS, &NEW, &calls, |bus| {
+        bus.start_sending();
+        assert_eq!(bus.send_bytes(b"hi"), Ok(2));
+        assert_eq!(bus.receive_echo(b"hi"), Ok(()));
+        assert_eq!(bus.receive_echo(b""), Ok(()));
+        let differs = EchoError::Differs {
+            done: 1,
+            heard: b'o',
+        };
+        // What follows is left where it is.
+        assert_eq!(bus.receive_echo(b"hi!"), Err(differs));
+    });
+    let answers = [EMPTY, 0x09, DATA_READY, b'h', EMPTY, EMPTY];
+    let mut uart = driver(&answers);
+    uart.set_spin_limit(NonZeroU64::new(2).unwrap());
+    let Ok(mut bus) = HalfDuplex::new(uart, RTS) else {
+        panic!("the transmitter is empty");
+    };
+    assert_eq!(bus.receive_echo(b"hi"), Err(EchoError::Silent { done: 1 }));
+}
+
+#[test]
+fn a_stuck_transmitter_is_given_up() {
+    for (status, waits) in [(EMPTY, false), (ROOM, true), (FULL, true)] {
+        let new = [EMPTY, 0x0b, 0x09, 0x6a, status, status, 0x1b];
+        let Ok(mut bus) = HalfDuplex::new(driver(&new), RTS) else {
+            panic!("the transmitter is empty");
+        };
+        bus.start_sending();
+        // What this look clears is told in the end.
+        assert!(bus.is_idle());
+        assert_eq!(bus.is_idle(), !waits);
+        let (uart, shown) = bus.give_up();
+        assert_eq!(shown.bits(), status | 0x0a);
+        let made = uart.backend().accesses().expect("no other access");
+        assert_eq!(made[made.len() - 3..], [Read(LSR, status), Read(MCR, 0x1b), Write(MCR, 0x09)]);
+        assert_eq!(made.len(), 3 + 2 + 2 + 3);
+    }
 }
 
 #[test]

@@ -89,7 +89,7 @@ fn whatever_is_called_and_answered() {
         };
         for _ in 0..calls {
             let bytes = [0x55; 20];
-            match choices.below(9) {
+            match choices.below(14) {
                 0 | 1 => bus.start_sending(),
                 2 => drop(bus.try_finish()),
                 3 => drop(bus.is_idle()),
@@ -97,6 +97,10 @@ fn whatever_is_called_and_answered() {
                 5 => drop(bus.lsr()),
                 6 => drop(bus.send_bytes(&bytes[..choices.below(20) as usize])),
                 7 => drop(bus.send_bytes_exact(&bytes[..choices.below(20) as usize])),
+                8 => drop(bus.receive_bytes_exact(&mut [0; 3])),
+                9 => drop(bus.receive_bytes_while(&mut [0; 3], &mut || choices.below(3) > 0)),
+                10 => drop(bus.receive_echo(&bytes[..3])),
+                11 => drop((bus.ready_to_receive(), bus.try_receive_byte(), bus.try_receive_with_errors())),
                 _ => {
                     bus.receive_bytes(&mut [0; 2]);
                     bus.receive_with_errors(&mut [Received::default(); 2]);
@@ -107,6 +111,15 @@ fn whatever_is_called_and_answered() {
         let made = &bus.inner().backend().made;
         assert_eq!(judge(made, bit, sends_when_set), is_sending);
         written += made.iter().filter(|one| matches!(one, Access::Write(0, _))).count();
+        // Whatever the device shows, it is switched to receive by `give_up`, which writes no byte.
+        let before = made.len();
+        let (uart, _status) = bus.give_up();
+        let last = &uart.backend().made[before..];
+        let [Access::Read(5, _), Access::Read(4, _), Access::Write(4, mcr)] = last[..] else {
+            panic!("{last:?}");
+        };
+        assert_ne!(mcr & bit != 0, sends_when_set);
+        assert_eq!(mcr & 0x10, 0);
     }
     // The runs do what they are for.
     assert!(begun > 1000 && written > 10_000, "{begun} {written}");

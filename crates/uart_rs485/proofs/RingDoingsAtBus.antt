@@ -1,0 +1,42 @@
+-- What is done by rings at a bus, one call after another.
+use Rattle.std.proofs.Common.{◌≡◌, ◌++◌, ℕ, false, List, [], ◌∷◌, Option, Some, None, length, refl, is_some, arith}
+use Rattle.std.specs.Prelude.{option_to_list}
+use Rattle.uart_spec.specs.declared.access.Access.{Access}
+use Rattle.uart_16550.specs.Driver.{Made, Next, Saving, fields}
+use Rattle.uart_16550.specs.Grammar.{Language}
+use Rattle.uart_16550.proofs.Doings.{did_made}
+use Rattle.uart_16550.proofs.Paths.{path_then}
+use Rattle.uart_ring.specs.Ring as rings
+use Rattle.uart_ring.specs.Ring.{ring_backend_of, ring_fields}
+use Rattle.uart_rs485.specs.Rings.{OfDriver, OnRings, RingBusDid, RingBusDoing, RingBusFields, ring_bus_fields, with_rings}
+use Rattle.uart_rs485.specs.declared.rings.HalfDuplexRing.{HalfDuplexRing}
+
+-- the driver under the rings made this and saved it, and of the other fields only this changed
+pub ring_made : {B : Type 0} {step : B → Access → B → Type 0} {L : Language} (change : RingBusFields → RingBusFields)
+    (a b : HalfDuplexRing B) → Made step L a.ring.uart b.ring.uart →
+    ring_fields b.ring ≡ rings.with_driver (fields b.ring.uart) (ring_fields a.ring) →
+    ring_bus_fields b ≡ with_rings (ring_fields b.ring) (change (ring_bus_fields a)) →
+    RingBusDid step (OnRings (OfDriver (Saving L)) change) a b
+ring_made change a b p held others =
+    let did = did_made p in record { list = did.list; path = did.path; does = ((did.does, held), others) }
+
+-- one doing and then another
+pub ring_bus_then : {B : Type 0} {step : B → Access → B → Type 0} {G H : RingBusDoing} {a b c : HalfDuplexRing B} →
+    RingBusDid step G a b → RingBusDid step H b c → RingBusDid step (Next G H) a c
+ring_bus_then {step} {a} {b} {c} p q = record {
+  list = p.list ++ q.list;
+  path = path_then step (ring_backend_of a.ring) (ring_backend_of b.ring) (ring_backend_of c.ring) p.list q.list p.path q.path;
+  does = record { front = p.list; back = q.list; mid = ring_bus_fields b; whole = refl; first = p.does; second = q.does };
+}
+
+-- what is done is among more
+pub ring_bus_among : {B : Type 0} {step : B → Access → B → Type 0} {G H : RingBusDoing} {a b : HalfDuplexRing B} →
+    ((l : List Access) → G (ring_bus_fields a) l (ring_bus_fields b) → H (ring_bus_fields a) l (ring_bus_fields b)) →
+    RingBusDid step G a b → RingBusDid step H a b
+ring_bus_among h p = record { list = p.list; path = p.path; does = h p.list p.does }
+
+-- no byte waits
+pub nothing_waits : (urgent : Option ℕ) (items : List ℕ) → length items ≡ 0 → is_some urgent ≡ false → option_to_list urgent ++ items ≡ []
+nothing_waits None [] none not_urgent = refl
+nothing_waits (Some byte) items none not_urgent = absurd cc
+nothing_waits None (byte ∷ items) none not_urgent = absurd (omega (arith, none))

@@ -1,0 +1,5 @@
+use Rattle.uart_rs485.proofs.Keeping.{frees}
+use Rattle.uart_rs485.proofs.laws.giving_up_frees_the_bus.Goals as goal
+
+pub returns : goal.returns
+returns c = frees
