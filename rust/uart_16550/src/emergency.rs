@@ -6,8 +6,8 @@
 //!
 //! [The guide of interrupts](crate::ring#when-the-program-panics) has a table of the accesses that it makes.
 //!
-//! FIFOs are not reset, and nothing received is read: what was on its way goes out first. Without `set_frame`, LCR keeps its frame, and
-//! the divisor latch its divisor.
+//! FIFOs are not reset, and nothing received is read: what was on its way goes out first. One byte at a time goes out, since the FIFOs
+//! may be off. Without `set_frame`, LCR keeps its frame, and the divisor latch its divisor.
 //!
 //! Its calls are those of the proved driver, but for the writes of `take_over`. What they come to together is tested: with a driver
 //! that stops at each access of each of its calls.
@@ -17,7 +17,7 @@ use crate::native::backend::Backend;
 use crate::native::embedded_io::Write as _;
 use crate::native::spec::registers::{LCR, MCR, offsets};
 use crate::native::{
-    AttachError, Config, InvalidDivisorError, StalledError, Uart16550, Uart16550Tty,
+    AttachError, Config, DriverState, InvalidDivisorError, StalledError, Uart16550, Uart16550Tty,
 };
 use core::fmt;
 use core::num::NonZeroU64;
@@ -94,8 +94,14 @@ impl<B: Backend> EmergencyConsole<B> {
     // A declaration alone: nothing unsafe is done here. The promise is about two objects for one device.
     #[allow(unsafe_code)]
     pub unsafe fn take_over(backend: B, patience: NonZeroU64) -> Result<Self, AttachError> {
-        let mut uart = Uart16550::new_with_backend(backend);
-        uart.set_spin_limit(patience);
+        // Nobody knows whether the FIFOs are on: the chip may have none, or an `init` that a panic ended has switched them off. So
+        // each byte waits for the one before it. The second of a burst would be lost.
+        let state = DriverState {
+            fifo_enabled: false,
+            spin_limit: patience,
+            ..DriverState::new()
+        };
+        let mut uart = Uart16550::from_state(backend, &state);
         close_latch(&mut uart, patience)?;
         uart.backend_mut().write(offset_of(offsets::IER), 0);
         leave_loopback(&mut uart)?;

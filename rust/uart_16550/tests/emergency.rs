@@ -41,6 +41,8 @@ struct Chip {
     is_stuck: bool,
     /// It ignores writes to LCR as long as it sends.
     is_busy_while_sending: bool,
+    /// It has room for one character, and loses what is written beyond that.
+    has_no_fifo: bool,
 }
 
 impl Chip {
@@ -97,6 +99,7 @@ impl Chip {
         let is_busy = self.is_busy_while_sending && !self.transmit.is_empty();
         match offset {
             offsets::DATA | offsets::IER if is_latched => self.latch[offset] = value,
+            offsets::DATA if self.has_no_fifo && !self.transmit.is_empty() => {}
             offsets::DATA => self.transmit.push_back(value),
             offsets::FCR => {}
             offsets::LCR if is_busy => {}
@@ -273,6 +276,26 @@ fn a_break_ends_as_soon_as_the_chip_lets_it() {
     assert_eq!(console.send_bytes(b"after"), Ok(()));
     assert_eq!(console.flush(), Ok(()));
     assert_eq!(cable.chip().text(), b"after");
+}
+
+/// A 16450 has none, and an `init` that a panic ended may have switched them off.
+#[test]
+fn no_byte_is_lost_where_fifos_are_off() {
+    const BYTES: &[u8] = b"more than a FIFO of 16 holds";
+    let cable = Cable::default();
+    let mut uart = Uart16550::new_with_backend(cable.clone());
+    uart.init(CONFIG).unwrap();
+    cable.chip().has_no_fifo = true;
+    let mut console = take_over(&cable).unwrap();
+    assert_eq!(console.send_bytes(BYTES), Ok(()));
+    assert_eq!(console.write_raw_text(BYTES), Ok(()));
+    assert_eq!(console.flush(), Ok(()));
+    let mut uart = console.into_inner();
+    assert_eq!(uart.send_bytes_exact(BYTES), Ok(()));
+    while !cable.chip().transmit.is_empty() {
+        cable.chip().pass();
+    }
+    assert_eq!(cable.chip().text(), [BYTES, BYTES, BYTES].concat());
 }
 
 /// A chip whose LCR keeps these bits set.
