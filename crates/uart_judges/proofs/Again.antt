@@ -1,7 +1,9 @@
 -- After a read nothing more is learnt from the same read with the same value.
-use Rattle.std.proofs.Common.{◌≡◌, ◌∙◌, ℕ, Bool, true, false, ◌==◌, refl, ap, sym, arith, suc, zero, List, [], ◌∷◌, ◌++◌}
+use Rattle.std.proofs.Common.{◌≡◌, ◌∙◌, ℕ, Bool, true, false, ◌&&◌, ◌==◌, refl, ap, sym, arith, suc, zero, List, [], ◌∷◌, ◌++◌}
 use Rattle.std.proofs.Common.{Option, Some, None, is_some, subst, ◌≤◌}
 use Rattle.std.specs.Prelude.{IsSome, if◌then◌else◌, replicate}
+use Rattle.std.proofs.Math.Bool.{and-false}
+use Rattle.std.proofs.lemmas.Bool.{and_parts}
 use Rattle.uart_spec.specs.Bits.{has_any}
 use Rattle.uart_spec.specs.declared.registers.interrupt_status.TheConstants.ISR
 use Rattle.uart_spec.specs.declared.registers.line_status.TheConstants.LSR
@@ -14,13 +16,16 @@ use Rattle.uart_judges.specs.declared.replay.known.Sender.{Sender}
 use Rattle.uart_judges.specs.declared.replay.known.Sender.TheVariants.{Idle, ThrEmpty}
 use Rattle.uart_judges.specs.declared.replay.known.Start.{Start}
 use Rattle.uart_judges.specs.declared.replay.latches.KnownLatches.{KnownLatches}
+use Rattle.uart_judges.specs.declared.replay.looped.Looped.{Looped}
 use Rattle.uart_judges.specs.declared.replay.rule.Rule.{Rule}
-use Rattle.uart_judges.specs.Known.{after_asking, after_read, first_known, sender_shown, waits_after}
+use Rattle.uart_judges.specs.Known.{after_asking, after_read, first_known, is_data, is_empty, loops_back, sender_shown, takes}
+use Rattle.uart_judges.specs.Known.{waits_after}
 use Rattle.uart_judges.specs.Latches as latches
-use Rattle.uart_judges.specs.Latches.{after_read_data, after_read_ier, data_read, dlab, ier_read}
+use Rattle.uart_judges.specs.Latches.{after_read_data, after_read_ier, data_read, dlab, ier_read, shown}
+use Rattle.uart_judges.specs.Looped.{after, begun}
 use Rattle.uart_judges.specs.Replays.{AreSound, NoneReturns, Seen, difference, difference_by, differences, each_of, known_after}
 use Rattle.uart_judges.specs.Replays.{known_from, known_read, known_reads, seen_read}
-use Rattle.uart_judges.specs.Rules.{broken}
+use Rattle.uart_judges.specs.Rules.{broken, broken_data, broken_latch}
 use Rattle.uart_judges.proofs.Explaining.{none_returns}
 use Rattle.uart_judges.proofs.LatchesHold.{by_number}
 
@@ -142,6 +147,44 @@ looked_asked_twice : (b looked : Bool) →
 looked_asked_twice true looked = refl
 looked_asked_twice false looked = refl
 
+-- no read of offset 0 behind another certainly takes a character
+takes_then : (d : Option Bool) (waits : Bool) → (waits_after d waits && is_data d) ≡ false
+takes_then None waits = refl
+takes_then (Some true) waits = and-false waits
+takes_then (Some false) waits = refl
+
+takes_read : (value : ℕ) (l : KnownLatches) (waits : Bool) →
+    (waits_after (dlab l) waits && is_data (dlab (after_read_data l value))) ≡ false
+takes_read value l waits =
+    ap (λ d. waits_after (dlab l) waits && is_data d) (data_again (dlab l) value l).1 ∙ takes_then (dlab l) waits
+
+-- what comes back, after a read and the same read
+looped_twice : (offset value : ℕ) (k : Known) →
+    (after_read offset value (after_read offset value k)).looped ≡ (after_read offset value k).looped
+looped_twice offset value k = at_data (offset == offsets.DATA) refl
+  where
+    Same : ℕ → Type 0
+    Same n = (after_read n value (after_read n value k)).looped ≡ (after_read n value k).looped
+
+    once_more : (b : Bool) (l : Looped) → begun b (begun b l) ≡ begun b l
+    once_more false l = refl
+    once_more true l = go l.is_known refl
+      where
+        go : (known : Bool) → l.is_known ≡ known → begun true (begun true l) ≡ begun true l
+        go true e = rw e refl
+        go false e = rw e refl
+
+    at_lsr : (offset == offsets.DATA) ≡ false → (b : Bool) → (offset == offsets.LSR) ≡ b → Same offset
+    at_lsr e true f = by_number Same offset offsets.LSR f (once_more (is_empty value && loops_back k.latches.mcr) k.looped)
+    at_lsr e false f = rw (e, f) refl
+
+    at_data : (b : Bool) → (offset == offsets.DATA) ≡ b → Same offset
+    at_data false e = at_lsr e (offset == offsets.LSR) refl
+    at_data true e =
+        by_number Same offset offsets.DATA e
+        (ap (λ (b : Bool). if b then after (after_read offsets.DATA value k).looped value else (after_read offsets.DATA value k).looped)
+        (takes_read value k.latches k.waits))
+
 -- ---- all that is known
 
 read_twice : (offset value : ℕ) (k : Known) → after_read offset value (after_read offset value k) ≡ after_read offset value k
@@ -153,6 +196,7 @@ read_twice offset value k = λ i. record (after_read offset value k) {
       waits_read (offset == offsets.DATA) (offset == offsets.LSR) value k.latches (other_read offset value k.latches)
       (has_any value LSR.DATA_READY.0) k.waits i;
   is_looked = looked_read (offset == offsets.DATA) (offset == offsets.LSR) k.is_looked i;
+  looped = looped_twice offset value k i;
 }
 
 read_asked : (offset value : ℕ) (k : Known) → after_asking offset (after_read offset value k) ≡ after_read offset value k
@@ -169,9 +213,39 @@ asked_twice offset k = λ i. record k {
   is_looked = looked_asked_twice (offset == offsets.DATA) k.is_looked i;
 }
 
--- a read whose value is left out changes nothing that a rule for it is about
-broken_asked : (offset value : ℕ) (k : Known) → broken offset value (after_asking offset k) ≡ broken offset value k
-broken_asked offset value k = go (offset == offsets.DATA) refl
+-- a read whose value is left out changes nothing that a rule for it is about, but for one of DATA: behind it no character
+-- certainly waits, and the same read teaches nothing
+data_dlab : (o : Option Bool) → is_data o ≡ true → o ≡ Some false
+data_dlab None e = absurd (cc)
+data_dlab (Some true) e = absurd (cc)
+data_dlab (Some false) e = refl
+
+broken_latched : (value : ℕ) (k : Known) → takes k ≡ false → broken_data value k ≡ broken_latch (shown offsets.DATA k.latches) value
+broken_latched value k e = rw e refl
+
+read_asked_data : (value : ℕ) (k : Known) → dlab k.latches ≡ Some false →
+    after_read offsets.DATA value (after_asking offsets.DATA k) ≡ after_asking offsets.DATA k
+read_asked_data value k e = λ i. record (after_asking offsets.DATA k) {
+  latches = ap (λ d. data_read d value k.latches) e i;
+  waits = waits_twice (dlab k.latches) k.waits i;
+  looped = ap (λ (b : Bool). if b then after k.looped value else k.looped) (takes_then (dlab k.latches) k.waits) i;
+}
+
+asked_data : (value : ℕ) (k : Known) (rule : Rule) → broken offsets.DATA value k ≡ Some rule →
+    broken offsets.DATA value (after_asking offsets.DATA k) ≡ None →
+    after_read offsets.DATA value (after_asking offsets.DATA k) ≡ after_asking offsets.DATA k
+asked_data value k rule e f = go (takes k) refl
+  where
+    go : (b : Bool) → takes k ≡ b → after_read offsets.DATA value (after_asking offsets.DATA k) ≡ after_asking offsets.DATA k
+    go true g = read_asked_data value k (data_dlab (dlab k.latches) (and_parts k.waits (is_data (dlab k.latches)) g).1)
+    go false g =
+        let same : broken_data value (after_asking offsets.DATA k) ≡ broken_data value k =
+        broken_latched value (after_asking offsets.DATA k) (takes_then (dlab k.latches) k.waits) ∙ sym (broken_latched value k g) in
+        absurd (let h : Some rule ≡ None = sym e ∙ (sym same ∙ f) in cc)
+
+asked_otherwise : (offset value : ℕ) (k : Known) (rule : Rule) → broken offset value k ≡ Some rule →
+    broken offset value (after_asking offset k) ≡ None → after_read offset value (after_asking offset k) ≡ after_asking offset k
+asked_otherwise offset value k rule e f = go (offset == offsets.DATA) refl
   where
     asked : Bool → Known
     asked b = record k {
@@ -179,9 +253,12 @@ broken_asked offset value k = go (offset == offsets.DATA) refl
       is_looked = if b then false else k.is_looked;
     }
 
-    go : (b : Bool) → (offset == offsets.DATA) ≡ b → broken offset value (asked (offset == offsets.DATA)) ≡ broken offset value k
-    go false e = ap (λ (b : Bool). broken offset value (asked b)) e
-    go true e = by_number (λ n. broken n value (asked (offset == offsets.DATA)) ≡ broken n value k) offset offsets.DATA e refl
+    go : (b : Bool) → (offset == offsets.DATA) ≡ b → after_read offset value (after_asking offset k) ≡ after_asking offset k
+    go false g =
+        absurd (let h : Some rule ≡ None = sym e ∙ (sym (ap (λ (b : Bool). broken offset value (asked b)) g) ∙ f) in cc)
+    go true g =
+        by_number (λ n. broken n value k ≡ Some rule → broken n value (after_asking n k) ≡ None →
+        after_read n value (after_asking n k) ≡ after_asking n k) offset offsets.DATA g (asked_data value k rule) e f
 
 -- ---- the same read again
 
@@ -194,8 +271,7 @@ fixed_by : (offset value : ℕ) (k : Known) (first second : Option Rule) → bro
 fixed_by offset value k None None e f = read_twice offset value k
 fixed_by offset value k None (Some rule) e f = read_asked offset value k
 fixed_by offset value k (Some rule) (Some other) e f = asked_twice offset k
-fixed_by offset value k (Some rule) None e f =
-    absurd (let g : Some rule ≡ None = sym e ∙ (sym (broken_asked offset value k) ∙ f) in cc)
+fixed_by offset value k (Some rule) None e f = asked_otherwise offset value k rule e f
 
 -- what is known after a read stays by the same read
 pub read_fixed : (offset value : ℕ) (k : Known) → known_read offset value (known_read offset value k) ≡ known_read offset value k

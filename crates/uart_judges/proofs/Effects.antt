@@ -1,32 +1,47 @@
 -- What is known of a chip holds after a read or a write.
-use Rattle.std.proofs.Common.{◌≡◌, ℕ, suc, Bool, true, false, ◌&&◌, ◌==◌, List, [], ◌∷◌, length, Option, Some, None, refl}
-use Rattle.std.proofs.Common.{arith, sym, ◌∙◌, if◌then◌else◌}
+use Rattle.std.proofs.Common.{◌≡◌, ℕ, suc, ◌+◌, ◌^◌, ◌<◌, Bool, true, false, not, ◌&&◌, ◌==◌, nat_lt, List, [], ◌∷◌, ◌++◌, length, map}
+use Rattle.std.proofs.Common.{Option, Some, None, refl, arith, sym, ◌∙◌, ap, subst, bit_and, if◌then◌else◌}
+use Rattle.std.proofs.lemmas.Bool.{and_parts, leb-false}
 use Rattle.std.proofs.lemmas.Grind.{common_steps}
-use Rattle.uart_spec.specs.Bits.{has_any}
+use Rattle.std.proofs.Math.Nat.{mod-eq_of_lt}
+use Rattle.uart_spec.specs.Bits.{field, has_any}
 use Rattle.uart_spec.specs.declared.registers.fifo_control.TheConstants.FCR
 use Rattle.uart_spec.specs.declared.registers.interrupt_status.TheConstants.ISR
+use Rattle.uart_spec.specs.declared.registers.line_control.TheConstants.LCR
 use Rattle.uart_spec.specs.declared.registers.line_status.TheConstants.LSR
+use Rattle.uart_spec.specs.declared.registers.modem_control.TheConstants.MCR
 use Rattle.uart_spec.specs.declared.registers.offsets.TheConstants as offsets
 use Rattle.uart_events.specs.declared.event.Chip.{Chip}
 use Rattle.uart_events.specs.declared.event.Chip.TheVariants.{Uart16550A, Uart16450}
+use Rattle.uart_chip.specs.declared.receiver.Character.{Character}
 use Rattle.uart_chip.specs.declared.transmitter.Shifting.{Shifting}
-use Rattle.uart_chip.specs.Transmitter.{TransmitterState}
-use Rattle.uart_chip.specs.Receiver.{ReceiverState, clear}
+use Rattle.uart_chip.specs.Transmitter.{TransmitterState, held, load, shift_bytes}
+use Rattle.uart_chip.specs.Receiver.{ReceiverState, clear, take_front}
 use Rattle.uart_chip.specs.Chip as chip
 use Rattle.uart_chip.specs.Chip.{ChipState, answer, interrupt, is_dlab_set, is_thr_empty, is_transmitter_empty, line_status, trigger_level}
 use Rattle.uart_chip.specs.Chip.{switch, reset_receiver, reset_transmitter, set_trigger, is_same, set_fifo, control, is_64, with_size}
-use Rattle.uart_chip.specs.Chip.{empty_queues, switched_size, is_switching, switch_size}
+use Rattle.uart_chip.specs.Chip.{empty_queues, switched_size, is_switching, switch_size, is_loopback, word_length, cut_to, cut_of}
+use Rattle.uart_chip.specs.Chip.{with_latches}
+use Rattle.uart_chip.proofs.AccessMoves.{both_if, if_given, read_move, write_lasts}
 use Rattle.uart_chip.proofs.FifoBits.{any_shown}
+use Rattle.uart_chip.proofs.McrBits.{kept_bit}
 use Rattle.uart_chip.proofs.lasting.Lasting.{lasts-read, lasts-write, lasts-latch}
+use Rattle.uart_chip.proofs.loopback.Loops.{line_in}
 use Rattle.uart_chip.proofs.statuses.Status.{status_data, status_room, status_empty}
 use Rattle.uart_judges.specs.declared.replay.known.Known.{Known}
 use Rattle.uart_judges.specs.declared.replay.known.Sender.{Sender}
-use Rattle.uart_judges.specs.declared.replay.known.Sender.TheVariants.{ThrEmpty, Idle}
+use Rattle.uart_judges.specs.declared.replay.known.Sender.TheVariants.{Unknown, ThrEmpty, Idle}
+use Rattle.uart_judges.specs.declared.replay.looped.Looped.{Looped}
 use Rattle.uart_judges.specs.Latches.{dlab}
 use Rattle.uart_judges.specs.Known.{sender_shown, waits_after, after_read, after_asking, sender_after, fifo_after, after_write}
-use Rattle.uart_judges.proofs.Between.{SenderHolds, HasCharacter, sender_lasts}
+use Rattle.uart_judges.specs.Known.{is_data, takes, loops_back, is_empty, is_emptied, looped_sent, looped_after}
+use Rattle.uart_judges.specs.Looped.{nothing, and, after}
+use Rattle.uart_judges.specs.Shows.{is_cut}
+use Rattle.uart_judges.proofs.Between.{SenderHolds, HasCharacter, sender_lasts, positive}
 use Rattle.uart_judges.proofs.Holding.{Agrees, LatchesHold, Holds, Same, same_refl, same_if, latches_moved, fifo_moved}
 use Rattle.uart_judges.proofs.LatchesHold.{by_number, knows_dlab, learned, written}
+use Rattle.uart_judges.proofs.Looping.{Within, within-refl, within_read, within_load, loops_write, within_write}
+use Rattle.uart_judges.proofs.Returning.{LoopHolds, unknown_holds, nothing_holds, begun_holds, holds_on, after_holds, and_holds}
 
 -- ---- a read
 
@@ -92,7 +107,71 @@ waits_if : (P : Type 0) (a b on : Bool) → (on ≡ true → a ≡ true → P) �
 waits_if P a b true p q e = p refl e
 waits_if P a b false p q e = q refl e
 
+-- a read leaves what comes back, or takes some of it
+loop_read : (offset : ℕ) (l : Looped) (c : ChipState) → LoopHolds l c → LoopHolds l (chip.after_read offset c)
+loop_read offset l c h =
+    holds_on l c _ (λ e. ap is_loopback (same_read offset c).latches ∙ e) (λ _. within_read offset c _ (read_move offset c)) h
+
+-- a byte that certainly waits is read
+loop_taken : (l : Looped) (c : ChipState) → is_dlab_set c.latches ≡ false → HasCharacter c.receiver → LoopHolds l c →
+    LoopHolds (after l (answer offsets.DATA c)) (chip.after_read offsets.DATA c)
+loop_taken l c q w h = rw q (taken c.receiver.queue refl)
+  where
+    taken : (queue : List Character) → c.receiver.queue ≡ queue →
+        LoopHolds (after l (take_front c.receiver.queue c.receiver).last_byte)
+        (record c { receiver = take_front c.receiver.queue c.receiver })
+    taken [] e = absurd (let none : false ≡ true = ap (λ (cs : List Character). nat_lt 0 (length cs)) (sym e) ∙ w in cc)
+    taken (x ∷ xs) e =
+        subst (λ cs. LoopHolds (after l (take_front cs c.receiver).last_byte) (record c { receiver = take_front cs c.receiver })) (sym e)
+        (after_holds l c (record c { receiver = take_front (x ∷ xs) c.receiver }) x.byte
+        (map (λ (y : Character). y.byte) xs ++ held c.transmitter) h
+        (ap (λ cs. map (λ (y : Character). y.byte) cs ++ held c.transmitter) e) refl refl)
+
+-- offset 0 is the data
+pub data_open : (o : Option Bool) (b : Bool) → Agrees o b → is_data o ≡ true → b ≡ false
+data_open None b a e = absurd (cc)
+data_open (Some true) b a e = absurd (cc)
+data_open (Some false) b a e = a
+
+loop_known : (o : Option ℕ) (mcr : ℕ) → Agrees o mcr → loops_back o ≡ true → has_any mcr MCR.LOOP_BACK.0 ≡ true
+loop_known None mcr a e = absurd (cc)
+loop_known (Some known) mcr a e = ap (λ n. has_any n MCR.LOOP_BACK.0) a ∙ e
+
+no_character : (queue : List Character) → nat_lt 0 (length queue) ≡ false → queue ≡ []
+no_character [] e = refl
+no_character (x ∷ xs) e = absurd (let some : true ≡ false = sym (positive (length xs)) ∙ e in cc)
+
+-- LSR shows that nothing comes back
+loop_empty : (c : ChipState) → is_loopback c.latches ≡ true → is_empty (line_status c) ≡ true →
+    LoopHolds nothing (chip.after_read offsets.LSR c)
+loop_empty c loops e =
+    let p = and_parts (not (has_any (line_status c) LSR.DATA_READY.0)) (has_any (line_status c) LSR.TRANSMITTER_EMPTY.0) e in
+    let waits : c.receiver.queue ≡ [] = no_character c.receiver.queue (sym (status_data c) ∙ off _ p.0) in
+    let sent = nothing_left c.transmitter.queue c.transmitter.shift_register (sym (status_empty c) ∙ p.1) in
+    nothing_holds (chip.after_read offsets.LSR c) loops (rw (waits, sent.0, sent.1) refl)
+  where
+    off : (b : Bool) → not b ≡ true → b ≡ false
+    off false e = refl
+    off true e = absurd (cc)
+
 module _ (offset : ℕ) (k : Known) (c : ChipState) (h : Holds k c) where
+  loop_told : LoopHolds (after_read offset (answer offset c) k).looped (chip.after_read offset c)
+  loop_told =
+      let P : Looped → Type 0 = λ l. LoopHolds l (chip.after_read offset c) in
+      if_given P _ _ ((offset == offsets.DATA) && takes k)
+      (λ e. let p = and_parts (offset == offsets.DATA) (takes k) e in
+      let q = and_parts k.waits (is_data (dlab k.latches)) p.1 in
+      by_number (λ n. LoopHolds (after k.looped (answer n c)) (chip.after_read n c)) offset offsets.DATA p.0
+      (loop_taken k.looped c (data_open (dlab k.latches) _ (knows_dlab k.latches c.latches h.latches) q.1) (h.waits q.0) h.looped))
+      (λ _. if_given P _ _ (offset == offsets.LSR)
+      (λ e. begun_holds (is_empty (answer offset c) && loops_back k.latches.mcr) k.looped _
+      (λ shown. by_number (λ n. (is_empty (answer n c) && loops_back k.latches.mcr) ≡ true → LoopHolds nothing (chip.after_read n c)) offset
+      offsets.LSR e
+      (λ e. let q = and_parts (is_empty (line_status c)) (loops_back k.latches.mcr) e in
+      loop_empty c (loop_known k.latches.mcr c.latches.mcr h.latches.mcr q.1) q.0) shown)
+      (loop_read offset k.looped c h.looped))
+      (λ _. loop_read offset k.looped c h.looped))
+
   sender_read : SenderHolds k.sender (chip.after_read offset c).transmitter
   sender_read = lasts-read (SenderHolds k.sender) (sender_lasts k.sender).in_accesses offset c h.sender
 
@@ -116,6 +195,7 @@ module _ (offset : ℕ) (k : Known) (c : ChipState) (h : Holds k c) where
         waits =
             waits_if (HasCharacter (chip.after_read offset c).receiver) (waits_after (dlab k.latches) k.waits) k.waits
             (offset == offsets.DATA) waits_data (λ e w. has_read offset c e (h.waits w));
+        looped = loop_read offset k.looped c h.looped;
       }
 
   fifo_read : Agrees (if offset == offsets.ISR then Some (has_any (answer offset c) ISR.FIFOS_ENABLED.0) else k.fifo) c.fifo
@@ -163,6 +243,7 @@ module _ (offset : ℕ) (k : Known) (c : ChipState) (h : Holds k c) where
             (λ e. waits_if (HasCharacter (chip.after_read offset c).receiver) (has_any (answer offset c) LSR.DATA_READY.0) k.waits
             (offset == offsets.LSR) (λ l w. has_read offset c e (lsr_read l w))
             (λ _ w. has_read offset c e (h.waits w)));
+        looped = loop_told;
       }
 
 -- ---- a write of FCR
@@ -262,6 +343,86 @@ sender_sent None sender value c a h = tt
 sender_sent (Some false) sender value c a h = tt
 sender_sent (Some true) sender value c a h = lasts-latch (SenderHolds sender) (sender_lasts sender).in_accesses value c a h
 
+-- ---- what comes back, after a write
+
+-- a byte that is not cut
+uncut : (cuts : Bool) (lcr byte : ℕ) → is_cut (record { 0 = lcr }) byte ≡ false → cut_to cuts (word_length lcr) byte ≡ byte
+uncut false lcr byte e = refl
+uncut true lcr byte e =
+    let bits : field 0 2 lcr ≡ bit_and lcr LCR.WORD_LENGTH.0 = grind (arith, common_steps) in
+    let fits : byte < 2 ^ (5 + field 0 2 lcr) = leb-false (2 ^ (5 + field 0 2 lcr)) byte e in
+    mod-eq_of_lt (subst (λ n. byte < 2 ^ (5 + n)) bits fits)
+
+loop_sent : (o : Option ℕ) (l : Looped) (value : ℕ) (c : ChipState) → Agrees o c.latches.lcr → LoopHolds l c →
+    LoopHolds (looped_sent o value l) (chip.after_write offsets.DATA value c)
+loop_sent None l value c a h = unknown_holds (chip.after_write offsets.DATA value c)
+loop_sent (Some lcr) l value c a h =
+    let P : Looped → Type 0 = λ l. LoopHolds l (chip.after_write offsets.DATA value c) in
+    if_given P _ _ (has_any lcr LCR.DLAB.0) latched
+    (λ off. if_given P _ _ (is_cut (record { 0 = lcr }) value) (λ _. unknown_holds _) (written_byte off))
+  where
+    dlab_is : is_dlab_set c.latches ≡ has_any lcr LCR.DLAB.0
+    dlab_is = ap (λ n. has_any n LCR.DLAB.0) a
+
+    latched : has_any lcr LCR.DLAB.0 ≡ true → LoopHolds l (chip.after_write offsets.DATA value c)
+    latched on =
+        rw (dlab_is, on) (holds_on l c (with_latches (record c.latches { dll = value }) c) (λ e. e) (λ _. within-refl (line_in c)) h)
+
+    written_byte : has_any lcr LCR.DLAB.0 ≡ false → is_cut (record { 0 = lcr }) value ≡ false →
+        LoopHolds (and l value) (chip.after_write offsets.DATA value c)
+    written_byte off fits =
+        let whole : cut_of c value ≡ value = ap (λ n. cut_to c.cuts (word_length n) value) a ∙ uncut c.cuts lcr value fits in
+        let d : ChipState = record c { transmitter = load c.fifo (cut_of c value) c.transmitter } in
+        rw (dlab_is, off) (and_holds l c d value h
+        (subst (λ byte. Within (line_in d) (line_in c ++ byte ∷ [])) whole
+        (within_load c.fifo (cut_of c value) c.transmitter c.receiver)) refl)
+
+-- the receiver is emptied, and nothing is left to be sent
+cleared : (value : ℕ) (c : ChipState) → has_any value FCR.FIFO_ENABLE.0 ≡ true → has_any value FCR.RX_FIFO_RESET.0 ≡ true →
+    (set_fifo value c).receiver.queue ≡ []
+cleared value c on reset =
+    rw (on, reset) (both_if (λ (d : ChipState). d.receiver.queue ≡ []) _ _ (has_any value FCR.TX_FIFO_RESET.0) refl refl)
+
+loop_emptied : (model : Chip) (sender : Sender) (o : Option ℕ) (value : ℕ) (c : ChipState) → c.model ≡ model →
+    SenderHolds sender c.transmitter → Agrees o c.latches.mcr → is_emptied model sender value o ≡ true →
+    LoopHolds nothing (chip.after_write offsets.FCR value c)
+loop_emptied Uart16450 sender o value c m s a e = absurd (cc)
+loop_emptied Uart16550A Unknown o value c m s a e = absurd (cc)
+loop_emptied Uart16550A ThrEmpty o value c m s a e = absurd (cc)
+loop_emptied Uart16550A Idle o value c m s a e =
+    let p = and_parts (has_any value FCR.FIFO_ENABLE.0) (has_any value FCR.RX_FIFO_RESET.0 && loops_back o) e in
+    let q = and_parts (has_any value FCR.RX_FIFO_RESET.0) (loops_back o) p.1 in
+    let idle : SenderHolds Idle (chip.after_write offsets.FCR value c).transmitter =
+    lasts-write (SenderHolds Idle) (sender_lasts Idle).in_accesses offsets.FCR value c refl s in
+    let d : chip.after_write offsets.FCR value c ≡ set_fifo value c = ap (λ (model : Chip). control model value c) m in
+    nothing_holds (chip.after_write offsets.FCR value c)
+    (ap (λ (e : ChipState). is_loopback e.latches) d ∙ (ap is_loopback (switched value c).latches ∙ loop_known o c.latches.mcr a q.1))
+    (none_held _ _ _ (ap (λ (e : ChipState). e.receiver.queue) d ∙ cleared value c p.0 q.0) idle.1 idle.0)
+  where
+    none_held : (queue : List Character) (place : Option Shifting) (bytes : List ℕ) → queue ≡ [] → place ≡ None → bytes ≡ [] →
+        map (λ (y : Character). y.byte) queue ++ (shift_bytes place ++ bytes) ≡ []
+    none_held queue place bytes e f g = rw (e, f, g) refl
+
+-- another write
+loop_kept : (offset value : ℕ) (l : Looped) (c : ChipState) → (offset == offsets.DATA) ≡ false →
+    ((offset == offsets.MCR) && not (has_any value MCR.LOOP_BACK.0)) ≡ false → LoopHolds l c → LoopHolds l (chip.after_write offset value c)
+loop_kept offset value l c n stays h = go (offset == offsets.MCR) refl
+  where
+    on : (b : Bool) → not b ≡ false → b ≡ true
+    on true e = refl
+    on false e = absurd (cc)
+
+    go : (b : Bool) → (offset == offsets.MCR) ≡ b → LoopHolds l (chip.after_write offset value c)
+    go false e =
+        write_lasts (LoopHolds l) offset value
+        (λ d f m. holds_on l d f (λ loops. loops_write offset value e d f m ∙ loops) (λ _. within_write offset value n e d f m)) c h
+    go true e =
+        let loops : has_any value MCR.LOOP_BACK.0 ≡ true =
+        on _ (ap (λ (b : Bool). b && not (has_any value MCR.LOOP_BACK.0)) (sym e) ∙ stays) in
+        by_number (λ n. LoopHolds l (chip.after_write n value c)) offset offsets.MCR e
+        (holds_on l c (chip.after_write offsets.MCR value c) (λ _. kept_bit c.auto_flow 4 value refl refl ∙ loops)
+        (λ _. within-refl (line_in c)) h)
+
 -- what is known but the transmitter
 record Rest (k : Known) (c : ChipState) : Type 0 where
   model : c.model ≡ k.model
@@ -307,6 +468,19 @@ module _ (offset value : ℕ) (k : Known) (c : ChipState) (h : Holds k c) where
             (λ _ w. absurd (cc)) (λ _ w. has_moved c.receiver _ a.receiver (h.waits w));
       }
 
+  loop_wrote : LoopHolds (looped_after offset value k) (chip.after_write offset value c)
+  loop_wrote =
+      let P : Looped → Type 0 = λ l. LoopHolds l (chip.after_write offset value c) in
+      if_given P _ _ (offset == offsets.DATA)
+      (λ e. by_number (λ n. LoopHolds (looped_sent k.latches.lcr value k.looped) (chip.after_write n value c)) offset offsets.DATA e
+      (loop_sent k.latches.lcr k.looped value c h.latches.lcr h.looped))
+      (λ n. if_given P _ _ ((offset == offsets.FCR) && is_emptied k.model k.sender value k.latches.mcr)
+      (λ e. let p = and_parts (offset == offsets.FCR) (is_emptied k.model k.sender value k.latches.mcr) e in
+      by_number (λ n. LoopHolds nothing (chip.after_write n value c)) offset offsets.FCR p.0
+      (loop_emptied k.model k.sender k.latches.mcr value c h.model h.sender h.latches.mcr p.1))
+      (λ _. if_given P _ _ ((offset == offsets.MCR) && not (has_any value MCR.LOOP_BACK.0)) (λ _. unknown_holds _)
+      (λ stays. loop_kept offset value k.looped c n stays h.looped)))
+
   pub holds_write : Holds (after_write offset value k) (chip.after_write offset value c)
   holds_write =
       let r : Rest (after_write offset value k) (chip.after_write offset value c) = rest_wrote (offset == offsets.FCR) refl in
@@ -318,4 +492,5 @@ module _ (offset value : ℕ) (k : Known) (c : ChipState) (h : Holds k c) where
         fifo = r.fifo;
         sender = sender_wrote;
         waits = r.waits;
+        looped = loop_wrote;
       }

@@ -14,12 +14,14 @@ use Rattle.uart_judges.specs.declared.replay.known.Start.TheVariants.{Reset, InU
 use Rattle.uart_judges.specs.declared.replay.rule.Rule.{Rule}
 use Rattle.uart_judges.specs.Latches.{first_latches}
 use Rattle.uart_judges.specs.Known.{first_fifo, first_known}
+use Rattle.uart_judges.specs.Looped.{unknown}
 use Rattle.uart_judges.specs.Rules.{broken}
 use Rattle.uart_judges.specs.Replays.{Seen, Did, Asked, SeenStep, SeenPath, IsBuilt, IsUsed, Begins, NoneReturns, known_after, known_from}
 use Rattle.uart_judges.proofs.Holding.{Agrees, Holds, holds_before}
 use Rattle.uart_judges.proofs.Effects.{holds_asked, holds_read, holds_write}
 use Rattle.uart_judges.proofs.Looped.{IsMachine, machine_access, machine_path, machine_seen, machine_built}
 use Rattle.uart_judges.proofs.Fitting.{none_broken}
+use Rattle.uart_judges.proofs.Returning.{unknown_holds}
 
 -- ---- what is known holds after each access
 
@@ -48,6 +50,7 @@ holds_built model m b = rw b.built (record {
   fifo = off model;
   sender = (refl, refl);
   waits = λ e. absurd (cc);
+  looped = unknown_holds _;
 })
   where
     off : (model : Chip) → Agrees (first_fifo model Reset) false
@@ -64,6 +67,7 @@ only_model model =
       sender = Unknown;
       waits = false;
       is_looked = false;
+      looped = unknown;
     }
 
 holds_model : (c : ChipState) → c.auto_flow ≡ false → c.has_size_switch ≡ false → Holds (only_model c.model) c
@@ -75,6 +79,7 @@ holds_model c flow switch = record {
   fifo = tt;
   sender = tt;
   waits = λ e. absurd (cc);
+  looped = unknown_holds c;
 }
 
 -- the model, and that it has no automatic flow control and no switch of its size
@@ -116,6 +121,7 @@ holds_used model m u =
       fifo = off model same w.sound.chip.implemented;
       sender = tt;
       waits = λ e. absurd (cc);
+      looped = unknown_holds m.chip;
     }
   where
     off : (model : Chip) → m.chip.model ≡ model → (m.chip.fifo ≡ true → m.chip.model ≡ Uart16550A) →

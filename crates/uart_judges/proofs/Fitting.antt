@@ -1,6 +1,6 @@
 -- No value that the chip returns breaks a rule.
-use Rattle.std.proofs.Common.{◌≡◌, ℕ, Bool, true, false, not, ◌&&◌, ◌==◌, nat_lt, List, [], ◌∷◌, length, Option, Some, None}
-use Rattle.std.proofs.Common.{refl, arith, sym, ◌∙◌, ap, bit_and, bit_or, if◌then◌else◌}
+use Rattle.std.proofs.Common.{◌≡◌, ℕ, Bool, true, false, not, ◌&&◌, ◌==◌, nat_lt, List, [], ◌∷◌, ◌++◌, length, map}
+use Rattle.std.proofs.Common.{Option, Some, None, refl, arith, sym, ◌∙◌, ap, subst, bit_and, bit_or, if◌then◌else◌}
 use Rattle.std.specs.List.{list_any}
 use Rattle.std.proofs.lemmas.Grind.{common_steps}
 use Rattle.std.proofs.lemmas.Bool.{and_from, and_parts, and_right}
@@ -22,8 +22,9 @@ use Rattle.uart_spec.specs.declared.registers.modem_status.TheConstants.MSR
 use Rattle.uart_spec.specs.declared.registers.offsets.TheConstants as offsets
 use Rattle.uart_chip.specs.declared.receiver.Character.{Character}
 use Rattle.uart_chip.specs.declared.transmitter.Shifting.{Shifting}
-use Rattle.uart_chip.specs.Receiver.{unreported, has_errors, is_data_pending, is_timed_out}
-use Rattle.uart_chip.specs.Chip.{ChipState, answer, interrupt, identification, line_status, is_transmitter_empty}
+use Rattle.uart_chip.specs.Receiver.{unreported, has_errors, is_data_pending, is_timed_out, take_front}
+use Rattle.uart_chip.specs.Transmitter.{held}
+use Rattle.uart_chip.specs.Chip.{ChipState, answer, interrupt, identification, line_status, is_transmitter_empty, is_dlab_set}
 use Rattle.uart_chip.specs.Modem.{ModemState, looped_lines, lines_under}
 use Rattle.uart_chip.proofs.Bits.{and_or}
 use Rattle.uart_chip.proofs.FifoBits.{any_shown, fifo_bits}
@@ -35,15 +36,19 @@ use Rattle.uart_judges.specs.declared.replay.known.Sender.{Sender}
 use Rattle.uart_judges.specs.declared.replay.known.Sender.TheVariants.{Unknown, ThrEmpty, Idle}
 use Rattle.uart_judges.specs.declared.replay.rule.Rule.{Rule}
 use Rattle.uart_judges.specs.declared.replay.rule.Rule.TheVariants.{FifoBits, Interrupt, EmptyBits, ErrorAlone}
-use Rattle.uart_judges.specs.declared.replay.rule.Rule.TheVariants.{FifoError, StillWaits, LoopedLines}
-use Rattle.uart_judges.specs.Latches.{shown}
-use Rattle.uart_judges.specs.Known.{known_or}
+use Rattle.uart_judges.specs.declared.replay.rule.Rule.TheVariants.{FifoError, StillWaits, LoopedLines, LoopedData}
+use Rattle.uart_judges.specs.Latches.{dlab, shown}
+use Rattle.uart_judges.specs.Looped.{excludes}
+use Rattle.uart_judges.specs.Known.{is_data, known_or, takes}
 use Rattle.uart_judges.specs.Rules.{broken_latch, breaks_fifo_bits, may_be_enabled, may_be_pending, may_show, is_explained, broken_isr}
-use Rattle.uart_judges.specs.Rules.{character_bits, broken_receiver, broken_sender, first_of_two, broken_lsr, broken_msr, broken}
+use Rattle.uart_judges.specs.Rules.{character_bits, broken_receiver, broken_sender, first_of_two, broken_lsr, broken_msr}
+use Rattle.uart_judges.specs.Rules.{broken_data, broken}
 use Rattle.uart_judges.proofs.Between.{SenderHolds, HasCharacter, positive}
 use Rattle.uart_judges.proofs.Holding.{Agrees, Holds}
 use Rattle.uart_judges.proofs.Looped.{Looped}
-use Rattle.uart_judges.proofs.LatchesHold.{by_number, agrees_shown}
+use Rattle.uart_judges.proofs.Effects.{data_open}
+use Rattle.uart_judges.proofs.LatchesHold.{by_number, agrees_shown, knows_dlab}
+use Rattle.uart_judges.proofs.Returning.{none_excluded}
 
 if_none : (b : Bool) (x y : Option Rule) → (b ≡ true → x ≡ None) → y ≡ None → (if b then x else y) ≡ None
 if_none true x y p q = p refl
@@ -265,15 +270,40 @@ msr_kept (Some mcr) c a w l = go (has_any mcr MCR.LOOP_BACK.0) refl
         (λ on. same c.modem (looped_lines mcr) w
         (l ∙ (ap (λ n. lines_under n c.modem.inputs) a ∙ looped_under mcr c.modem.inputs on)))
 
+-- ---- DATA
+
+-- the byte that is read in loopback comes back
+data_kept : (k : Known) (c : ChipState) → Holds k c → broken_data (answer offsets.DATA c) k ≡ None
+data_kept k c h =
+    if_none (takes k && excludes k.looped (answer offsets.DATA c)) (Some LoopedData) _
+    (λ e. let p = and_parts (takes k) (excludes k.looped (answer offsets.DATA c)) e in
+    let q = and_parts k.waits (is_data (dlab k.latches)) p.0 in
+    absurd (let no : true ≡ false = sym p.1 ∙ comes (data_open (dlab k.latches) _ (knows_dlab k.latches c.latches h.latches) q.1)
+    (h.waits q.0) in cc))
+    (latch_kept (shown offsets.DATA k.latches) (answer offsets.DATA c) (agrees_shown k.latches c h.latches offsets.DATA))
+  where
+    comes : is_dlab_set c.latches ≡ false → HasCharacter c.receiver → excludes k.looped (answer offsets.DATA c) ≡ false
+    comes off some = rw off (first c.receiver.queue refl)
+      where
+        first : (queue : List Character) → c.receiver.queue ≡ queue →
+            excludes k.looped (take_front c.receiver.queue c.receiver).last_byte ≡ false
+        first [] e = absurd (let none : false ≡ true = ap (λ (cs : List Character). nat_lt 0 (length cs)) (sym e) ∙ some in cc)
+        first (x ∷ xs) e =
+            subst (λ cs. excludes k.looped (take_front cs c.receiver).last_byte ≡ false) (sym e)
+            (none_excluded k.looped c x.byte (map (λ (y : Character). y.byte) xs ++ held c.transmitter) h.looped
+            (ap (λ cs. map (λ (y : Character). y.byte) cs ++ held c.transmitter) e))
+
 -- ---- any register
 
 pub none_broken : (offset : ℕ) (k : Known) (c : ChipState) → Holds k c → IsSoundModem c.modem → Looped c →
     broken offset (answer offset c) k ≡ None
 none_broken offset k c h w l =
-    if_none (offset == offsets.ISR) (broken_isr (answer offset c) k) _
+    if_none (offset == offsets.DATA) (broken_data (answer offset c) k) _
+    (λ e. by_number (λ n. broken_data (answer n c) k ≡ None) offset offsets.DATA e (data_kept k c h))
+    (if_none (offset == offsets.ISR) (broken_isr (answer offset c) k) _
     (λ e. by_number (λ n. broken_isr (answer n c) k ≡ None) offset offsets.ISR e (isr_kept k c h))
     (if_none (offset == offsets.LSR) (broken_lsr (answer offset c) k) _
     (λ e. by_number (λ n. broken_lsr (answer n c) k ≡ None) offset offsets.LSR e (lsr_kept k c h))
     (if_none (offset == offsets.MSR) (broken_msr (answer offset c) k.latches.mcr) (broken_latch (shown offset k.latches) (answer offset c))
     (λ e. by_number (λ n. broken_msr (answer n c) k.latches.mcr ≡ None) offset offsets.MSR e (msr_kept k.latches.mcr c h.latches.mcr w l))
-    (latch_kept (shown offset k.latches) (answer offset c) (agrees_shown k.latches c h.latches offset))))
+    (latch_kept (shown offset k.latches) (answer offset c) (agrees_shown k.latches c h.latches offset)))))

@@ -7,6 +7,7 @@ use Rattle.uart_chip.proofs.lasting.Lasting.{LastsInEvents, chip_lasts-before}
 use Rattle.uart_judges.specs.declared.replay.known.Known.{Known}
 use Rattle.uart_judges.specs.declared.replay.latches.KnownLatches.{KnownLatches}
 use Rattle.uart_judges.proofs.Between.{SenderHolds, HasCharacter, sender_lasts, has-tick, has-arrive}
+use Rattle.uart_judges.proofs.Returning.{LoopHolds, loop_lasts}
 
 -- the value is this one, if it is known
 abbrev pub Agrees : {A : Type 0} → Option A → A → Type 0
@@ -31,6 +32,7 @@ pub record Holds (k : Known) (c : ChipState) : Type 0 where
   pub fifo : Agrees k.fifo c.fifo
   pub sender : SenderHolds k.sender c.transmitter
   pub waits : k.waits ≡ true → HasCharacter c.receiver
+  pub looped : LoopHolds k.looped c
 
 -- what holds of a value holds of one that equals it
 pub latches_moved : (k : KnownLatches) (l m : LatchesState) → m ≡ l → LatchesHold k l → LatchesHold k m
@@ -67,6 +69,7 @@ holds_lasts k = record {
     fifo = h.fifo;
     sender = (sender_lasts k.sender).in_tick (is_loopback c.latches) (is_held_off c) c.transmitter h.sender;
     waits = λ e. has-tick c (h.waits e);
+    looped = (loop_lasts k.looped).in_tick c h.looped;
   };
   in_arrival = λ byte errors c h. record {
     model = h.model;
@@ -76,6 +79,7 @@ holds_lasts k = record {
     fifo = h.fifo;
     sender = h.sender;
     waits = λ e. has-arrive byte errors c (h.waits e);
+    looped = (loop_lasts k.looped).in_arrival byte errors c h.looped;
   };
   in_lines = λ inputs c h. record {
     model = h.model;
@@ -85,6 +89,7 @@ holds_lasts k = record {
     fifo = h.fifo;
     sender = h.sender;
     waits = h.waits;
+    looped = (loop_lasts k.looped).in_lines inputs c h.looped;
   };
 }
 

@@ -9,6 +9,8 @@ pub mod Holding
 pub mod LatchesHold
 pub mod Effects
 pub mod Looped
+pub mod Looping
+pub mod Returning
 pub mod Fitting
 pub mod Explaining
 pub mod Again

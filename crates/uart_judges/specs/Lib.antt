@@ -19,6 +19,7 @@ pub mod Steps
 pub mod Unread
 pub mod Severities
 pub mod Latches
+pub mod Looped
 pub mod Known
 pub mod Rules
 pub mod Replays

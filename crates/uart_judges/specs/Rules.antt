@@ -24,9 +24,10 @@ use Rattle.uart_judges.specs.declared.replay.known.Sender.TheVariants.{Unknown, 
 use Rattle.uart_judges.specs.declared.replay.rule.Rule.{Rule}
 use Rattle.uart_judges.specs.declared.replay.rule.Rule.TheVariants.{Keeps, FifoBits, Interrupt, EmptyBits}
 use Rattle.uart_judges.specs.declared.replay.rule.Rule.TheVariants.{ErrorAlone, FifoError, StillWaits}
-use Rattle.uart_judges.specs.declared.replay.rule.Rule.TheVariants.{ThrStaysEmpty, StaysIdle, LoopedLines}
+use Rattle.uart_judges.specs.declared.replay.rule.Rule.TheVariants.{ThrStaysEmpty, StaysIdle, LoopedLines, LoopedData}
 use Rattle.uart_judges.specs.Latches.{shown}
-use Rattle.uart_judges.specs.Known.{known_or}
+use Rattle.uart_judges.specs.Known.{known_or, takes}
+use Rattle.uart_judges.specs.Looped.{excludes}
 
 -- ---- latches
 
@@ -124,12 +125,20 @@ broken_msr msr None = None
 broken_msr msr (Some mcr) =
     if has_any mcr MCR.LOOP_BACK.0 && not (bit_and msr MSR.LINES.0 == looped_lines mcr) then Some LoopedLines else None
 
+-- ---- DATA, or the low byte of the divisor
+
+-- what is read in loopback is what was written and has not come back, in order
+abbrev pub broken_data : ℕ → Known → Option Rule
+broken_data value k =
+    if takes k && excludes k.looped value then Some LoopedData else broken_latch (shown offsets.DATA k.latches) value
+
 -- ---- any register
 
 -- the first rule that a value breaks if a read of this register returns it
 abbrev pub broken : ℕ → ℕ → Known → Option Rule
 broken offset value k =
-    if offset == offsets.ISR then broken_isr value k
+    if offset == offsets.DATA then broken_data value k
+    else if offset == offsets.ISR then broken_isr value k
     else if offset == offsets.LSR then broken_lsr value k
     else if offset == offsets.MSR then broken_msr value k.latches.mcr
     else broken_latch (shown offset k.latches) value

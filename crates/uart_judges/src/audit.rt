@@ -28,5 +28,6 @@ pub use finding::{Finding, Severity};
 pub use findings::HANDLER_TIME;
 pub use of_chip::{Answers, ChipAuditor};
 pub use setup::{DivisorBytes, Setup};
+pub use shows::is_cut;
 pub use step::{CHARACTER_TIME, LEAST_DIVISOR, MOST_HELD, Step};
 pub use unread::{Arrived, MOST_UNREAD, Unread};

@@ -12,11 +12,13 @@
 mod difference;
 mod known;
 mod latches;
+mod looped;
 mod replayer;
 mod rule;
 
 pub use difference::{Difference, Reported};
 pub use known::{Known, Sender, Start};
 pub use latches::KnownLatches;
+pub use looped::{Looped, MOST_LOOPED};
 pub use replayer::Replayer;
 pub use rule::{Rule, broken};

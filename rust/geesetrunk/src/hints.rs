@@ -72,6 +72,11 @@ pub enum Hint {
     EndsInBreak,
     /// DTR and RTS were never set, and bytes were sent or received.
     OutputsNeverRaised,
+    /// More bytes are written in loopback than LSR showed room for.
+    FloodInLoopback {
+        /// How many it showed room for.
+        room: u8,
+    },
     /// LSR shows that a character was lost: how late the handler was, as far as that is told.
     Overrun(Result<Lateness, Unknown>),
 }
@@ -102,6 +107,7 @@ impl Hint {
             Hint::EndsInPoll { .. } => "ends-in-poll",
             Hint::EndsInBreak => "ends-in-break",
             Hint::OutputsNeverRaised => "dtr-rts-never-set",
+            Hint::FloodInLoopback { .. } => "flood-in-loopback",
             Hint::Overrun(_) => "overrun-cause",
         }
     }
@@ -214,6 +220,11 @@ impl fmt::Display for Hint {
             Hint::EndsInBreak => f.write_str(
                 "the recording ends while LCR bit 6 (break) is set: the line stays low, and nothing goes out. Clear it when the break \
                  has lasted long enough",
+            ),
+            Hint::FloodInLoopback { room } => write!(
+                f,
+                "more bytes than the {room} that LSR showed room for are written in loopback from here on, and some of them are lost. \
+                 None goes onto the line, so a driver that counts what comes back measures the FIFO so"
             ),
             Hint::OutputsNeverRaised => f.write_str(
                 "MCR bits 0 (DTR) and 1 (RTS) were never set: an end with flow control sends nothing, and a modem hangs up. Set both",

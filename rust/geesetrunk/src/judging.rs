@@ -14,7 +14,7 @@ use uart_judges::audit::{
 use uart_judges::recording::{Entry, Happening, RecordingError};
 use uart_judges::replay::{Difference, Replayer, Rule, Start};
 use uart_spec::access::Access;
-use uart_spec::registers::offsets;
+use uart_spec::registers::{MCR, offsets};
 
 /// Who judges a recording.
 #[derive(Clone, Copy, Debug, PartialEq, Eq)]
@@ -318,10 +318,12 @@ impl DriverJudge {
 
     fn audit(&mut self, entry: &Entry, tell: &mut impl FnMut(Kind, u64)) {
         let (known, has) = (self.known, self.has);
+        let modem = self.usual.auditor.setup.modem;
+        let loops_back = modem.is_some_and(|modem| modem.contains(MCR::LOOP_BACK));
         let mut tell_all = |findings: &[Option<Finding>], times, is_wanted: fn(Finding) -> bool| {
             let found = findings.iter().flatten().copied();
             for finding in found.filter(|finding| is_wanted(*finding)) {
-                if let Some(kind) = kind_of(&known, &has, finding) {
+                if let Some(kind) = kind_of(&known, &has, finding, loops_back) {
                     tell(kind, times);
                 }
             }
@@ -361,12 +363,17 @@ fn is_about_time(finding: Finding) -> bool {
     matches!(finding, Finding::LeftWithLineUp(_))
 }
 
-// Returns what is told of a finding about the driver, with what is known of the chip, and what the log has.
-fn kind_of(known: &Known, has: &Has, finding: Finding) -> Option<Kind> {
+// Returns what is told of a finding about the driver, with what is known of the chip, and what the log has. Of a flood in loopback, which
+// nobody receives but the driver, only the beginning is told, as a note.
+fn kind_of(known: &Known, has: &Has, finding: Finding, loops_back: bool) -> Option<Kind> {
     if finding.severity() == Severity::Answer {
         return None;
     }
     let finding = known.adapted(finding)?;
+    if let (true, Finding::SentBeyondRoom { sent, room }) = (loops_back, finding) {
+        let begins = sent == u64::from(room) + 1;
+        return begins.then_some(Kind::Hint(Hint::FloodInLoopback { room }));
+    }
     if let Some(lack) = Lack::of(&finding, has) {
         return Some(Kind::Undecided(finding, lack));
     }

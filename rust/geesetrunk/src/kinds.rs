@@ -158,6 +158,7 @@ fn rule_name(rule: Rule) -> &'static str {
         Rule::ThrStaysEmpty => "thre-cleared",
         Rule::StaysIdle => "temt-cleared",
         Rule::LoopedLines => "looped-lines",
+        Rule::LoopedData => "looped-data",
     }
 }
 

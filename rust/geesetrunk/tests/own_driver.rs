@@ -1,11 +1,15 @@
 //! A run of our own driver over the software chip has no warning, whatever the schedule.
 
 use geesetrunk::heap;
-use geesetrunk::judging::Audited;
+use geesetrunk::judging::{Audited, Found, Judge, judge_recording};
 use geesetrunk::known::{Fifo, Known};
+use uart_16550::Uart16550;
+use uart_16550::backend::Backend;
+use uart_chip::{Chip, Device16550};
 use uart_judges::audit::{Finding, Severity};
 use uart_judges::recording::{Entry, Happening};
 use uart_spec::access::Access;
+use uart_spec::{Config, FifoSize};
 use uart_trace::{Listener, tell};
 
 // Gives the accesses of a run to the auditor, which was told the size that the driver takes the FIFOs for, and keeps the faults.
@@ -169,4 +173,56 @@ fn our_own_driver_has_no_warning() {
         assert_eq!(judged.faults, [], "seed {seed}:\n{script}");
     }
     println!("{runs} runs, {accesses} accesses");
+}
+
+// A chip in software, and a recording of the accesses to it.
+struct Recorded {
+    device: Device16550,
+    recording: String,
+}
+
+impl Backend for Recorded {
+    fn read(&mut self, register_offset: u8) -> u8 {
+        let answer = self.device.read(register_offset);
+        self.recording += &format!("r {register_offset} {answer:02x}\n");
+        answer
+    }
+
+    fn write(&mut self, register_offset: u8, value: u8) {
+        self.device.write(register_offset, value);
+        self.recording += &format!("w {register_offset} {value:02x}\n");
+    }
+}
+
+// The call floods the chip in loopback with 257 bytes: no fault of the driver, and none of the chip.
+#[test]
+fn a_measured_fifo_is_a_note() {
+    for char_ticks in [1, 4, 300] {
+        let schedule = Vec::new().into();
+        let device = Device16550::new(heap(), Chip::Uart16550A, char_ticks, 64, schedule).unwrap();
+        let mut uart = Uart16550::new_with_backend(Recorded {
+            device,
+            recording: String::new(),
+        });
+        uart.init(Config::DEFAULT).unwrap();
+        assert_eq!(uart.find_fifo_size(), Ok(FifoSize::Sixteen));
+        let recording = uart.backend().recording.as_bytes();
+        for (judge, floods) in [(Judge::Audit, 1), (Judge::Replay, 0)] {
+            let mut told = Vec::new();
+            let tell = |found: &Found| {
+                told.push((found.kind.severity(), found.kind.name()));
+                Ok(())
+            };
+            judge_recording(judge, &Known::default(), recording, tell).unwrap();
+            let place = format!("with {char_ticks} ticks: {told:?}");
+            assert!(
+                told.iter().all(|&(severity, _)| severity == "note"),
+                "{place}"
+            );
+            let found = told
+                .iter()
+                .filter(|&&(_, name)| name == "flood-in-loopback");
+            assert_eq!(found.count(), floods, "{place}");
+        }
+    }
 }

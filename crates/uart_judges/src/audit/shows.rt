@@ -33,8 +33,8 @@ fn largest(length: WordLength) -> u8
     }
 }
 
-// Returns whether a byte has more bits than a character that is sent with this line control.
-pub(crate) fn is_cut(lcr: LCR, byte: u8) -> bool
+/// Returns whether a byte has more bits than a character that is sent with this line control.
+pub fn is_cut(lcr: LCR, byte: u8) -> bool
     ensures { result ≡ spec.is_cut lcr byte }
 {
     byte > largest(lcr.word_length())

@@ -3,10 +3,12 @@ ghost use Rattle.std.specs.Prelude.{◌≡◌, true};
 ghost use Rattle.uart_judges.specs.Known as spec;
 ghost use Rattle.uart_judges.specs.Latches.{dlab};
 
+use crate::audit::is_cut;
 use crate::replay::latches::KnownLatches;
+use crate::replay::looped::Looped;
 use bitflags::Flags;
 use uart_chip::Chip;
-use uart_spec::registers::{FCR, ISR, LSR, offsets};
+use uart_spec::registers::{FCR, ISR, LCR, LSR, MCR, offsets};
 
 /// Where a recording begins.
 #[derive(Clone, Copy, Debug, PartialEq, Eq)]
@@ -46,6 +48,8 @@ pub struct Known {
     /// the errors of a character. A real chip may show them until then, even if the character was
     /// read.
     pub is_looked: bool,
+    /// What comes back in loopback.
+    pub looped: Looped,
 }
 
 // Returns whether the FIFOs are on at the start, if it is known: a 16450 has none.
@@ -111,6 +115,20 @@ fn waits_after(dlab: Option<bool>, waits: bool) -> bool
     }
 }
 
+// Returns whether offset 0 is certainly the data.
+fn is_data(dlab: Option<bool>) -> bool
+    ensures { result ≡ spec.is_data dlab }
+{
+    matches!(dlab, Some(false))
+}
+
+// Returns whether LSR shows that nothing waits, and nothing is left to be sent.
+fn is_empty(lsr: LSR) -> bool
+    ensures { result ≡ spec.is_empty lsr.0 }
+{
+    !lsr.intersects(LSR::DATA_READY) && lsr.intersects(LSR::TRANSMITTER_EMPTY)
+}
+
 impl Known {
     /// Returns what is known at the start of a recording.
     pub fn new(model: Chip, start: Start) -> Self
@@ -123,6 +141,7 @@ impl Known {
             sender: first_sender(start),
             waits: false,
             is_looked: false,
+            looped: Looped::unknown(),
         }
     }
 
@@ -133,6 +152,59 @@ impl Known {
         match self.fifo {
             None => true,
             Some(on) => on,
+        }
+    }
+
+    /// Returns whether a read of DATA certainly takes a character.
+    pub fn takes(&self) -> bool
+        ensures { result ≡ spec.takes self.now }
+    {
+        self.waits && is_data(self.latches.dlab())
+    }
+
+    // Returns whether loopback is certainly on.
+    fn loops_back(&self) -> bool
+        ensures { result ≡ spec.loops_back self.now.latches.mcr }
+    {
+        match self.latches.mcr {
+            None => false,
+            Some(mcr) => MCR::from_bits_retain(mcr).intersects(MCR::LOOP_BACK),
+        }
+    }
+
+    // Returns whether this write of FCR leaves nothing that can come back: it empties the receiver,
+    // and nothing is left to be sent.
+    fn is_emptied(&self, fcr: FCR) -> bool
+        ensures { result ≡
+            spec.is_emptied self.now.model self.now.sender fcr.0 self.now.latches.mcr }
+    {
+        match (self.model, self.sender) {
+            (Chip::Uart16550A, Sender::Idle) => {
+                fcr.intersects(FCR::FIFO_ENABLE)
+                    && fcr.intersects(FCR::RX_FIFO_RESET)
+                    && self.loops_back()
+            }
+            _ => false,
+        }
+    }
+
+    // Returns what comes back after a write of offset 0: a byte that fits into a character, as it
+    // was written.
+    fn looped_sent(&self, byte: u8) -> Looped
+        ensures { result ≡ spec.looped_sent self.now.latches.lcr byte self.now.looped }
+    {
+        match self.latches.lcr {
+            None => Looped::unknown(),
+            Some(lcr) => {
+                let lcr = LCR::from_bits_retain(lcr);
+                if lcr.intersects(LCR::DLAB) {
+                    self.looped
+                } else if is_cut(lcr, byte) {
+                    Looped::unknown()
+                } else {
+                    self.looped.and(byte)
+                }
+            }
         }
     }
 
@@ -153,6 +225,9 @@ impl Known {
             offsets::DATA => {
                 known.waits = self.waits_after_data();
                 known.is_looked = false;
+                if self.takes() {
+                    known.looped = self.looped.after(value);
+                }
             }
             offsets::ISR => {
                 known.fifo = Some(ISR::from_bits_retain(value).intersects(ISR::FIFOS_ENABLED));
@@ -161,6 +236,8 @@ impl Known {
                 known.sender = sender_shown(LSR::from_bits_retain(value), self.sender);
                 known.waits = LSR::from_bits_retain(value).intersects(LSR::DATA_READY);
                 known.is_looked = true;
+                let is_empty = is_empty(LSR::from_bits_retain(value)) && self.loops_back();
+                known.looped = self.looped.begun(is_empty);
             }
             _ => {}
         }
@@ -188,11 +265,22 @@ impl Known {
         let mut known = self;
         known.latches = self.latches.after_write(offset, value);
         match offset {
-            offsets::DATA => known.sender = sender_after(self.latches.dlab(), self.sender),
+            offsets::DATA => {
+                known.sender = sender_after(self.latches.dlab(), self.sender);
+                known.looped = self.looped_sent(value);
+            }
             offsets::FCR => {
                 known.fifo = fifo_after(self.model, value, self.fifo);
                 known.waits = false;
                 known.is_looked = false;
+                if self.is_emptied(FCR::from_bits_retain(value)) {
+                    known.looped = Looped::nothing();
+                }
+            }
+            offsets::MCR => {
+                if !MCR::from_bits_retain(value).intersects(MCR::LOOP_BACK) {
+                    known.looped = Looped::unknown();
+                }
             }
             _ => {}
         }

@@ -12,8 +12,8 @@ enum Step {
 }
 
 use Rule::{
-    EmptyBits, ErrorAlone, FifoBits, FifoError, Interrupt, Keeps, LoopedLines, StaysIdle,
-    StillWaits, ThrStaysEmpty,
+    EmptyBits, ErrorAlone, FifoBits, FifoError, Interrupt, Keeps, LoopedData, LoopedLines,
+    StaysIdle, StillWaits, ThrStaysEmpty,
 };
 use Step::{Read, Write};
 
@@ -117,6 +117,93 @@ fn line_status() {
         (&[Write(MCR, 0x1a), Read(MSR, 0xb0)], Some(LoopedLines)),
     ];
     assert_last(Chip::Uart16550A, Start::InUse, in_use);
+}
+
+/// Eight bits, loopback, nothing to be sent, an empty receiver, and then these accesses.
+fn looped(steps: &[Step]) -> Vec<Step> {
+    let mut all = vec![
+        Write(LCR, 0x03),
+        Read(LSR, 0x60),
+        Write(MCR, 0x10),
+        Write(FCR, 0xc7),
+    ];
+    all.extend(steps);
+    all
+}
+
+/// A byte that waits is read.
+fn waits(byte: u8) -> [Step; 2] {
+    [Read(LSR, 0x61), Read(DATA, byte)]
+}
+
+#[test]
+fn what_comes_back_was_written() {
+    let written =
+        |bytes: &[u8]| -> Vec<_> { bytes.iter().map(|&byte| Write(DATA, byte)).collect() };
+    let read = |bytes: &[u8]| -> Vec<_> { bytes.iter().flat_map(|&byte| waits(byte)).collect() };
+    let other = Some(LoopedData);
+    for (sent, received, want) in [
+        (&b"B"[..], &b"B"[..], None),
+        (b"B", &[0x99], other),
+        (b"B", b"BB", other),
+        (b"hello", b"hello", None),
+        // Some of them can be lost.
+        (b"hello", b"ho", None),
+        (b"hello", b"oh", other),
+        // An emulator gives the first byte back for each.
+        (b"hello world!1337", b"hh", other),
+        (b"", b"\0", other),
+        // More than are followed.
+        (b"hello world!13377", b"!!", None),
+    ] {
+        let steps = looped(&[written(sent), read(received)].concat());
+        for start in [Start::Reset, Start::InUse] {
+            let place = format!("of {sent:x?} {received:x?} came back");
+            assert_eq!(last(Chip::Uart16550A, start, &steps), want, "{place}");
+        }
+    }
+}
+
+#[test]
+fn what_comes_back_is_known_in_loopback_alone() {
+    let none_looked = [Write(DATA, 0x42), Read(DATA, 0x99)];
+    let five_bits = [&[Write(LCR, 0x00), Write(DATA, 0x42)], &waits(0x02)[..]].concat();
+    let latch = [&[Write(LCR, 0x83), Write(DATA, 0x42)], &waits(0x42)[..]].concat();
+    let left = [&[Write(MCR, 0x00)], &waits(0x99)[..]].concat();
+    let left_and_back = [&[Write(MCR, 0x00), Write(MCR, 0x10)], &waits(0x99)[..]].concat();
+    let kept = [&[Write(MCR, 0x1b)], &waits(0x99)[..]].concat();
+    for (steps, want) in [
+        // Whoever does not look at LSR may read where nothing waits.
+        (&none_looked[..], None),
+        (&five_bits, None),
+        (&latch, None),
+        (&left, None),
+        (&left_and_back, None),
+        (&kept, Some(LoopedData)),
+    ] {
+        let steps = looped(steps);
+        assert_eq!(
+            last(Chip::Uart16550A, Start::InUse, &steps),
+            want,
+            "after {steps:?}"
+        );
+    }
+    // What was on its way comes back; once LSR shows that nothing is, it does not.
+    let begins = [Write(LCR, 0x03), Write(MCR, 0x10), Write(FCR, 0xc7)];
+    let shown = [Read(LSR, 0x60)];
+    for (steps, want) in [
+        ([&begins[..], &waits(0x99)].concat(), None),
+        (
+            [&begins[..], &shown, &waits(0x99)].concat(),
+            Some(LoopedData),
+        ),
+    ] {
+        assert_eq!(
+            last(Chip::Uart16450, Start::InUse, &steps),
+            want,
+            "after {steps:?}"
+        );
+    }
 }
 
 #[test]

@@ -34,6 +34,8 @@ pub enum Rule {
     StaysIdle,
     /// In loopback the lines are the outputs of MCR.
     LoopedLines,
+    /// In loopback a byte that is read was written, and those behind it in the same order.
+    LoopedData,
 }
 
 impl fmt::Display for Rule {
@@ -57,6 +59,10 @@ impl fmt::Display for Rule {
                 "the transmitter was empty, and nothing was written since"
             ),
             Rule::LoopedLines => write!(f, "in loopback bits 4 to 7 are the outputs of MCR"),
+            Rule::LoopedData => write!(
+                f,
+                "in loopback what was written comes back, in order, and this byte was not next"
+            ),
         }
     }
 }
@@ -195,10 +201,20 @@ fn broken_msr(mcr: Option<u8>, msr: MSR) -> Option<Rule> {
     }
 }
 
+// Returns the rule that a value of offset 0 breaks.
+fn broken_data(known: &Known, value: u8) -> Option<Rule> {
+    if known.takes() && known.looped.excludes(value) {
+        Some(Rule::LoopedData)
+    } else {
+        broken_latch(known.latches.shown(offsets::DATA), value)
+    }
+}
+
 /// Returns the first rule that a value breaks if a read of this register returns it.
 #[must_use]
 pub fn broken(known: &Known, offset: usize, value: u8) -> Option<Rule> {
     match offset {
+        offsets::DATA => broken_data(known, value),
         offsets::ISR => broken_isr(known, value),
         offsets::LSR => broken_lsr(known, LSR::from_bits_retain(value)),
         offsets::MSR => broken_msr(known.latches.mcr, MSR::from_bits_retain(value)),
