@@ -95,6 +95,8 @@ struct Host {
 
 /// A guest with Linux's driver, and its host.
 struct Linux<D> {
+    /// How many bytes another processor prints between two reads of a character.
+    printed: usize,
     device: D,
     signals: Signals,
     host: Host,
@@ -108,8 +110,9 @@ struct Linux<D> {
 }
 
 impl<D: Device> Linux<D> {
-    fn new(device: D, signals: Signals, host: Host) -> Self {
+    fn new(device: D, signals: Signals, host: Host, printed: usize) -> Self {
         let mut linux = Linux {
+            printed,
             device,
             signals,
             host,
@@ -186,6 +189,10 @@ impl<D: Device> Linux<D> {
             if status & (DATA_READY | BREAK) == 0 {
                 break;
             }
+            // The other processor's accesses do not call the host.
+            for _ in 0..self.printed {
+                self.device.write(DATA, b'z');
+            }
         }
         status
     }
@@ -241,6 +248,7 @@ struct Work {
     input: usize,
     piece: usize,
     delay: u32,
+    printed: usize,
 }
 
 /// Prints what the device told meanwhile.
@@ -252,7 +260,7 @@ fn measure<D: Device>(name: &str, work: &Work, device: D, signals: &Signals) {
         comes_in: None,
         reads: 0,
     };
-    let mut linux = Linux::new(device, signals.clone(), host);
+    let mut linux = Linux::new(device, signals.clone(), host, work.printed);
     let mut left_out = work.out;
     while left_out > 0 || linux.received < work.input {
         // The guest makes no access, so the host comes. It has input again.
@@ -274,7 +282,7 @@ fn measure<D: Device>(name: &str, work: &Work, device: D, signals: &Signals) {
         );
     }
     println!(
-        "{name:<10} {:<46} {:>9} triggers {:>9} runs of the handler {:>9} for nothing {:>9} host reads {:>9} times room",
+        "{name:<17} {:<36} {:>9} triggers {:>9} runs of the handler {:>9} for nothing {:>9} host reads {:>9} times room",
         work.what,
         signals.triggers.get(),
         linux.runs,
@@ -289,7 +297,13 @@ const NEVER: u32 = u32::MAX;
 
 /// Counts over a device, which `make` makes with these signals.
 pub fn run<D: Device>(name: &str, make: impl Fn(Signals) -> D) {
-    for (what, out, input, piece, delay) in [
+    let other = [
+        ("1 MB in, another prints 1 each", 1),
+        ("1 MB in, another prints 2 each", 2),
+        ("1 MB in, another prints 4 each", 4),
+        ("1 MB in, another prints 15 each", 15),
+    ];
+    let works = [
         ("1 MB out", MEGABYTE, 0, 0, NEVER),
         ("1 MB in, typed byte by byte", 0, MEGABYTE, 1, NEVER),
         ("1 MB in, in pieces of 7", 0, MEGABYTE, 7, NEVER),
@@ -318,15 +332,25 @@ pub fn run<D: Device>(name: &str, make: impl Fn(Signals) -> D) {
             MOST_READ,
             64,
         ),
-    ] {
+    ]
+    .map(|(what, out, input, piece, delay)| Work {
+        what,
+        out,
+        input,
+        piece,
+        delay,
+        printed: 0,
+    });
+    let printed = other.map(|(what, printed)| Work {
+        what,
+        out: 0,
+        input: MEGABYTE,
+        piece: MOST_READ,
+        delay: 64,
+        printed,
+    });
+    for work in works.iter().chain(&printed) {
         let signals = Signals::default();
-        let work = Work {
-            what,
-            out,
-            input,
-            piece,
-            delay,
-        };
-        measure(name, &work, make(signals.clone()), &signals);
+        measure(name, work, make(signals.clone()), &signals);
     }
 }

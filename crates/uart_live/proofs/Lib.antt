@@ -8,3 +8,4 @@ pub mod Journals
 pub mod Quick
 pub mod Sends
 pub mod Sizes
+pub mod Dues

@@ -1,9 +1,10 @@
 -- What a guest does most often, and what a chip then does in few steps: reads of LSR that show no error, and bytes that
 -- are taken as soon as they are written.
-use Rattle.std.specs.Prelude.{ℕ, true, ◌||◌, Option, Some, None, if◌then◌else◌}
+use Rattle.std.specs.Prelude.{ℕ, Bool, true, ◌||◌, Option, Some, None, if◌then◌else◌}
 use Rattle.std.specs.List.{list_any}
-use Rattle.uart_chip.specs.Chip.{ChipState, line_status}
+use Rattle.uart_chip.specs.Chip.{ChipState, line_status, with_thr_pending}
 use Rattle.uart_chip.specs.Receiver.{has_errors}
+use Rattle.uart_live.specs.Held.{expire}
 use Rattle.uart_spec.specs.Bits.{has_any}
 use Rattle.uart_spec.specs.declared.registers.line_status.TheConstants.LSR
 
@@ -17,3 +18,7 @@ clear_status c =
 -- new
 abbrev pub passed : ChipState → ChipState
 passed c = record c { transmitter = record c.transmitter { is_thr_pending = true } }
+
+-- a chip whose reception timeout is due, and whose THR-empty interrupt is pending, or is not
+abbrev pub when_due : (is_thr_pending : Bool) → ChipState → ChipState
+when_due is_thr_pending c = with_thr_pending is_thr_pending (expire c)

@@ -5,12 +5,14 @@
 //! level of the interrupt line. Each call does what the definitions of the chip say.
 #![tactic(auto)]
 
+mod due;
 mod errors;
 mod fixed;
 pub mod laws;
 mod live;
 pub mod sound;
 
+pub use due::interrupts_when_due;
 pub use errors::{ChipError, InputError, RestoreError};
 pub use fixed::WIRE_ROOM;
 pub use live::{LiveChip, LiveChipWith};

@@ -11,7 +11,7 @@ ghost use Rattle.uart_live.specs.declared.errors.ChipError.{ChipError};
 ghost use Rattle.uart_live.specs.declared.errors.InputError.{InputError};
 ghost use Rattle.uart_live.specs.Live.{IsLive};
 ghost use Rattle.uart_live.specs.Held.{arrive_holding, expire};
-ghost use Rattle.uart_live.specs.Quick.{clear_status, passed};
+ghost use Rattle.uart_live.specs.Quick.{clear_status, passed, when_due};
 ghost use Rattle.uart_live.specs.Refused.{refusal};
 ghost use Rattle.uart_live.specs.Size.{fifo_size};
 ghost use Rattle.uart_spec.specs.declared.baud.TheConstants.{NUM_REGISTERS};
@@ -24,6 +24,7 @@ ghost use Rattle.uart_spec.specs.declared.registers.offsets.TheConstants as offs
 
 mod snapshot;
 
+use crate::due::interrupts_when_due;
 use crate::errors::{ChipError, InputError};
 use crate::fixed::{FixedFifo, FixedWire, NoMarks, WIRE_ROOM, is_size};
 use bitflags::Flags;
@@ -344,6 +345,31 @@ impl<const FIFO: usize> LiveChipWith<FIFO> {
         ensures live { IsLive (fifo_size FIFO) self.now }
     {
         self.uart.ier().intersects(IER::DATA_READY)
+    }
+
+    /// Returns whether the guest has the interrupt of an empty THR enabled.
+    #[inline]
+    pub fn has_output_interrupt_on(&self) -> bool
+        ensures on { result ≡ has_any self.now.latches.ier IER.THR_EMPTY.0 }
+        ensures live { IsLive (fifo_size FIFO) self.now }
+    {
+        self.uart.ier().intersects(IER::THR_EMPTY)
+    }
+
+    /// Returns whether the interrupt line is up if a reception timeout is due, and a THR-empty
+    /// interrupt is pending or is not.
+    ///
+    /// For an owner who lets so much time pass that a timeout is due: then it is
+    /// `is_interrupting`, without a look at the trigger level and at the time.
+    #[inline]
+    pub fn interrupts_when_due(&self, is_thr_pending: bool) -> bool
+        // proved: Whether the line is up once a reception timeout is due, with an interrupt of an
+        //   empty THR and without
+        // on: `LiveChip::interrupts_when_due`
+        ensures up { result ≡ is_some (spec.interrupt (when_due is_thr_pending self.now)) }
+        ensures live { IsLive (fifo_size FIFO) self.now }
+    {
+        interrupts_when_due(&self.uart, is_thr_pending)
     }
 
     /// Reads DATA for the guest, as [`LiveChipWith::read`] does.

@@ -8,7 +8,8 @@ use Rattle.uart_chip.specs.Transmitter.{TransmitterState, room, load}
 use Rattle.uart_chip.proofs.AccessMoves.{both_if}
 use Rattle.uart_live.proofs.Sends.{each}
 use Rattle.uart_virtual.specs.Port.{PortState, PortCall, Read, Write, Receive, ReceiveOne, SetLines, TakeOutput, after, todo}
-use Rattle.uart_virtual.specs.Port.{happen, brings, looks, moves_data, stays_up, settle, is_up, has_room, differ, rest_of, IsTold, IsPort}
+use Rattle.uart_virtual.specs.Port.{happen, brings, falls, looks, moves_data, stays_up, settle, is_up, has_room, differ, rest_of}
+use Rattle.uart_virtual.specs.Port.{IsTold, IsPort}
 use Rattle.uart_virtual.specs.Clock.{Event, Call, TimePasses, Clocked, is_put_off, is_given, after_event, after_events}
 use Rattle.uart_virtual.specs.Clock.{some_given, given, asked, IsClocked, NobodyWaitsForEver, EachRiseIsGiven, AFullFifoIsGiven}
 use Rattle.uart_virtual.specs.Clock.{ARiseIsGivenAtOnce, WhatCanWaitIsTime, ClockedStays, GivenWhileUp, AClockAddsNone}
@@ -93,12 +94,13 @@ rise_given events m h down up = pending_given events m (inr (h.line ∙ down)) (
 abbrev Answers : Clocked → Type 0
 Answers m = (m.port.told.spare ≡ 0) ⊎ Pending m
 
-spare_left : (looked signal moves knows : Bool) (n rest : ℕ) → signal ≡ false → n ≡ 0 →
-    (if looked then 0 else if signal then (if moves && knows then rest else 0) else if moves then n - 1 else n) ≡ 0
-spare_left true signal moves knows n rest s z = refl
-spare_left false true moves knows n rest s z = absurd (cc)
-spare_left false false true knows n rest s z = omega (arith, z)
-spare_left false false false knows n rest s z = z
+spare_left : (looked signal moves knows fell : Bool) (n rest : ℕ) → signal ≡ false → n ≡ 0 →
+    (if looked then 0 else if signal then (if moves && knows then rest else 0) else if moves && fell then n - 1 else n) ≡ 0
+spare_left true signal moves knows fell n rest s z = refl
+spare_left false true moves knows fell n rest s z = absurd (cc)
+spare_left false false true knows true n rest s z = omega (arith, z)
+spare_left false false true knows false n rest s z = z
+spare_left false false false knows fell n rest s z = z
 
 uncovered : (signal waits level was : Bool) (spare left : ℕ) → (signal ≡ false → spare ≡ 0 → left ≡ 0) → spare ≡ 0 →
     ((signal && not waits) ≡ true) ⊎
@@ -118,8 +120,8 @@ answers_event TimePasses m (inl z) = inr (inl z)
 answers_event (Call puts_off call) m (inl z) =
     let p : PortState = m.port in
     uncovered (todo call p).signal (is_put_off puts_off call m) (todo call p).level m.is_owed p.told.spare (after call p).told.spare
-    (spare_left (looks call) (todo call p).signal (moves_data call) p.told.has_looked p.told.spare
-    (rest_of (settle (happen call p.chip)))) z
+    (spare_left (looks call) (todo call p).signal (moves_data call) p.told.has_looked (falls (stays_up call (happen call p.chip)) p.told)
+    p.told.spare (rest_of (settle (happen call p.chip)))) z
 
 answers : (events : List Event) (m : Clocked) → Answers m → (some_given events m ≡ true) ⊎ Answers (after_events events m)
 answers [] m f = inr f

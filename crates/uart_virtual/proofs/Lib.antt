@@ -3,6 +3,7 @@ pub mod Times
 pub mod Sends
 pub mod Waits
 pub mod Stays
+pub mod Writes
 mod Clocks
 mod Rooms
 mod Empties

@@ -21,11 +21,12 @@ use Rattle.uart_virtual.specs.declared.told.Seen.{Seen}
 use Rattle.uart_virtual.specs.declared.told.Todo.{Todo}
 use Rattle.uart_virtual.specs.declared.told.Told.{Told}
 use Rattle.uart_virtual.specs.Port.{PortState, PortCall, Read, Write, TakeOutput, IsPort, IsStill, IsTold, after, todo, tell, todo_of}
-use Rattle.uart_virtual.specs.Port.{kind_of, stays_up, settle, settle_ticks, is_up, ignores_falls, seen_of, room_after, told_after}
+use Rattle.uart_virtual.specs.Port.{kind_of, stays_up, settle, settle_ticks, is_up, seen_of, room_after, told_after}
 use Rattle.uart_virtual.specs.Port.{rest_of, todo_after}
 use Rattle.uart_virtual.specs.Port.{passes, nothing_new}
 use Rattle.uart_virtual.proofs.Quiet.{IsQuiet, quiet_read, quiet_kind, quiet_told, quiet_tell, quiet_todo, take_kind}
-use Rattle.uart_virtual.proofs.Sends.{settle-sent, same_told, same_todo}
+use Rattle.uart_virtual.proofs.Sends.{settle-sent}
+use Rattle.uart_virtual.proofs.Writes.{others, stays_sent}
 use Rattle.uart_virtual.proofs.Tells.{nothing_told, nothing_todo, told_holds}
 use Rattle.uart_virtual.proofs.Times.{still_read, still_ticks}
 
@@ -33,7 +34,6 @@ use Rattle.uart_virtual.proofs.Times.{still_read, still_ticks}
 
 -- what the test says, part by part
 pub record Passing (p : PortState) : Type 0 where
-  pub settled : ignores_falls p.told ≡ true
   pub none : p.chip.transmitter.wire ≡ []
   pub sends : sends_at_once p.chip ≡ true
 
@@ -43,9 +43,8 @@ nothing (x ∷ xs) e = let no : false ≡ true = grind (arith, common_steps) in 
 
 pub passing_parts : (p : PortState) → passes p ≡ true → Passing p
 passing_parts p e =
-    let a = each (ignores_falls p.told) _ e in
-    let b = each (length p.chip.transmitter.wire == 0) _ a.1 in
-    record { settled = a.0; none = nothing p.chip.transmitter.wire b.0; sends = b.1 }
+    let a = each (length p.chip.transmitter.wire == 0) _ e in
+    record { none = nothing p.chip.transmitter.wire a.0; sends = a.1 }
 
 -- the kind of the write
 abbrev pub sending : Kind
@@ -68,7 +67,7 @@ none_held queue (Some s) q e = absurd (cc)
 -- the port after the write, and after the byte was taken
 pub written : {size : FifoSize} (value : ℕ) (p : PortState) → IsLive size p.chip → IsPort p → passes p ≡ true →
     after (Write offsets.DATA value) p ≡
-    record { chip = send_at_once value p.chip; told = tell sending false (passed p.chip) p.told }
+    record { chip = send_at_once value p.chip; told = tell sending (others p.chip) (passed p.chip) p.told }
 written value p w h e =
     let parts : Passing p = passing_parts p e in
     let call : PortCall = Write offsets.DATA value in
@@ -76,23 +75,23 @@ written value p w h e =
     let d : ChipState = after_write offsets.DATA value c in
     let sent = settle-sent value c w.whole.sound.chip h.still parts.sends in
     ap (λ (x : ChipState). record { chip = x; told = tell (kind_of call c) (stays_up call d) x p.told }) sent.0 ∙
-    ap (λ (told : Told). record { chip = send_at_once value c; told = told })
-    (same_told sending (stays_up call d) false (send_at_once value c) p.told parts.settled)
+    ap (λ (up : Bool). record { chip = send_at_once value c; told = tell sending up (send_at_once value c) p.told })
+    (sym (stays_sent value c h.still parts.sends))
 
 pub taken_after : {size : FifoSize} (value : ℕ) (p : PortState) → IsLive size p.chip → IsPort p → passes p ≡ true →
     after (TakeOutput 1) (after (Write offsets.DATA value) p) ≡
-    record { chip = passed p.chip; told = tell sending false (passed p.chip) p.told }
+    record { chip = passed p.chip; told = tell sending (others p.chip) (passed p.chip) p.told }
 taken_after value p w h e =
     let parts : Passing p = passing_parts p e in
     let c : ChipState = p.chip in
     let d : ChipState = send_at_once value c in
-    let t : Told = tell sending false (passed c) p.told in
+    let t : Told = tell sending (others c) (passed c) p.told in
     let s : Sends c = sends c parts.sends in
     let none : length (held d.transmitter) ≡ 0 = none_held c.transmitter.queue c.transmitter.shift_register s.empty s.free in
     let same : take_wire 1 d ≡ passed c = sym (quick.pass value c parts.none) in
     let still : settle (passed c) ≡ passed c =
     still_ticks (settle_ticks c.transmitter.size) (passed c) (quick.live-pass c w).whole.sound.chip (still_passed c h.still) in
-    let told : IsTold (record { chip = passed c; told = t }) = told_holds sending false (passed c) p.told in
+    let told : IsTold (record { chip = passed c; told = t }) = told_holds sending (others c) (passed c) p.told in
     ap (λ (q : PortState). after (TakeOutput 1) q) (written value p w h e) ∙
     (ap (λ (x : ChipState). record { chip = settle x; told = tell (kind_of (TakeOutput 1) d) (is_up x) (settle x) t }) same ∙
     (ap (λ (x : ChipState). record { chip = x; told = tell (kind_of (TakeOutput 1) d) (is_up (passed c)) x t }) still ∙
@@ -101,7 +100,7 @@ taken_after value p w h e =
 
 -- what the monitor has to do after the write
 pub write_todo : {size : FifoSize} (value : ℕ) (p : PortState) → IsLive size p.chip → IsPort p → passes p ≡ true →
-    record (todo (Write offsets.DATA value) p) { ready = 0 } ≡ record (todo_of sending false (passed p.chip) p.told) { ready = 0 }
+    record (todo (Write offsets.DATA value) p) { ready = 0 } ≡ record (todo_of sending (others p.chip) (passed p.chip) p.told) { ready = 0 }
 write_todo value p w h e =
     let parts : Passing p = passing_parts p e in
     let call : PortCall = Write offsets.DATA value in
@@ -109,24 +108,24 @@ write_todo value p w h e =
     let d : ChipState = after_write offsets.DATA value c in
     let sent = settle-sent value c w.whole.sound.chip h.still parts.sends in
     ap (λ (x : ChipState). record (todo_of (kind_of call c) (stays_up call d) x p.told) { ready = 0 }) sent.0 ∙
-    ap (λ (it : Todo). record it { ready = 0 })
-    (same_todo sending (stays_up call d) false (send_at_once value c) p.told parts.settled)
+    ap (λ (up : Bool). record (todo_of sending up (send_at_once value c) p.told) { ready = 0 })
+    (sym (stays_sent value c h.still parts.sends))
 
 -- when the byte was taken there is nothing to do
 pub take_todo : {size : FifoSize} (value : ℕ) (p : PortState) → IsLive size p.chip → IsPort p → passes p ≡ true →
     todo (TakeOutput 1) (after (Write offsets.DATA value) p) ≡
-    nothing_new (record { chip = passed p.chip; told = tell sending false (passed p.chip) p.told })
+    nothing_new (record { chip = passed p.chip; told = tell sending (others p.chip) (passed p.chip) p.told })
 take_todo value p w h e =
     let parts : Passing p = passing_parts p e in
     let c : ChipState = p.chip in
     let d : ChipState = send_at_once value c in
-    let t : Told = tell sending false (passed c) p.told in
+    let t : Told = tell sending (others c) (passed c) p.told in
     let s : Sends c = sends c parts.sends in
     let none : length (held d.transmitter) ≡ 0 = none_held c.transmitter.queue c.transmitter.shift_register s.empty s.free in
     let same : take_wire 1 d ≡ passed c = sym (quick.pass value c parts.none) in
     let still : settle (passed c) ≡ passed c =
     still_ticks (settle_ticks c.transmitter.size) (passed c) (quick.live-pass c w).whole.sound.chip (still_passed c h.still) in
-    let told : IsTold (record { chip = passed c; told = t }) = told_holds sending false (passed c) p.told in
+    let told : IsTold (record { chip = passed c; told = t }) = told_holds sending (others c) (passed c) p.told in
     ap (λ (q : PortState). todo (TakeOutput 1) q) (written value p w h e) ∙
     (ap (λ (x : ChipState). todo_of (kind_of (TakeOutput 1) d) (is_up x) (settle x) t) same ∙
     (ap (λ (x : ChipState). todo_of (kind_of (TakeOutput 1) d) (is_up (passed c)) x t) still ∙
@@ -154,13 +153,15 @@ same_room c told h = known_again told.has_room ∙ h.room
     known_again false = refl
 
 pub told_passed : (c : ChipState) (told : Told) → IsTold (record { chip = c; told = told }) →
-    told_after sending false (shown_passed c told) told ≡ tell sending false (passed c) told
-told_passed c told h = ap (λ (some : Bool). record (tell sending false (passed c) told) { has_room = some }) (same_room c told h)
+    told_after sending (others c) (shown_passed c told) told ≡ tell sending (others c) (passed c) told
+told_passed c told h =
+    ap (λ (some : Bool). record (tell sending (others c) (passed c) told) { has_room = some }) (same_room c told h)
 
 pub todo_passed : (c : ChipState) (told : Told) → IsTold (record { chip = c; told = told }) →
-    todo_after sending false (shown_passed c told) told ≡ todo_of sending false (passed c) told
+    todo_after sending (others c) (shown_passed c told) told ≡ todo_of sending (others c) (passed c) told
 todo_passed c told h =
-    ap (λ (some : Bool). record (todo_of sending false (passed c) told) { has_room = some && not told.has_room }) (same_room c told h)
+    ap (λ (some : Bool). record (todo_of sending (others c) (passed c) told) { has_room = some && not told.has_room })
+    (same_room c told h)
 
 -- what the call looked at is that
 pub seen_passed : (c : ChipState) (told : Told) (seen : Seen) → c.transmitter.wire ≡ [] → seen.level ≡ is_up (passed c) →
@@ -229,13 +230,13 @@ clear_keeps p x h read left = go (is_some (clear_status p.chip)) refl
     go false e = subst (λ (y : ChipState). IsPort (record { chip = y; told = p.told })) (sym (left e)) h
 
 pub passed_port : (p : PortState) → IsPort p →
-    IsPort (record { chip = passed p.chip; told = tell sending false (passed p.chip) p.told })
-passed_port p h = record { told = told_holds sending false (passed p.chip) p.told; still = still_passed p.chip h.still }
+    IsPort (record { chip = passed p.chip; told = tell sending (others p.chip) (passed p.chip) p.told })
+passed_port p h = record { told = told_holds sending (others p.chip) (passed p.chip) p.told; still = still_passed p.chip h.still }
 
 -- the same of values that are equal to these
-pub is_passed : (p : PortState) (x : ChipState) (t : Told) → x ≡ passed p.chip → t ≡ tell sending false (passed p.chip) p.told →
+pub is_passed : (p : PortState) (x : ChipState) (t : Told) → x ≡ passed p.chip → t ≡ tell sending (others p.chip) (passed p.chip) p.told →
     ◌≡◌ {A = PortState} (record { chip = x; told = t })
-    (record { chip = passed p.chip; told = tell sending false (passed p.chip) p.told })
+    (record { chip = passed p.chip; told = tell sending (others p.chip) (passed p.chip) p.told })
 is_passed p x t e f =
     ap (λ (y : ChipState). record { chip = y; told = t }) e ∙ ap (λ (u : Told). record { chip = passed p.chip; told = u }) f
 
@@ -247,9 +248,9 @@ pub same_some : (x y : Todo) → Some x ≡ Some y → x ≡ y
 same_some x y e = ap (λ (it : Option Todo). within x it) e
 
 pub pass_todo : {size : FifoSize} (value : ℕ) (p : PortState) (result : Todo) → IsLive size p.chip → IsPort p → passes p ≡ true →
-    result ≡ todo_of sending false (passed p.chip) p.told → result ≡ record (todo (Write offsets.DATA value) p) { ready = 0 }
+    result ≡ todo_of sending (others p.chip) (passed p.chip) p.told → result ≡ record (todo (Write offsets.DATA value) p) { ready = 0 }
 pass_todo value p result w h e same =
-    same ∙ (ap (λ (wire : List ℕ). record (todo_of sending false (passed p.chip) p.told) { ready = length wire })
+    same ∙ (ap (λ (wire : List ℕ). record (todo_of sending (others p.chip) (passed p.chip) p.told) { ready = length wire })
     (passing_parts p e).none ∙ sym (write_todo value p w h e))
 
 pub pass_taken : {size : FifoSize} (value : ℕ) (p : PortState) → IsLive size p.chip → IsPort p → passes p ≡ true →

@@ -34,7 +34,7 @@ none_signalled kind v c told down =
 
 -- what is told of a call that is no look and uses up nothing that is covered
 pub down_told : (kind : Kind) (v : Bool) (c : ChipState) (told : Told) → kind.looks ≡ false →
-    spare_after kind false (rest_of c) told ≡ told.spare → told.line ≡ false → is_up c ≡ false →
+    spare_after kind v false (rest_of c) told ≡ told.spare → told.line ≡ false → is_up c ≡ false →
     record told { has_room = room_after kind (seen_of c) told } ≡ tell kind v c told
 down_told kind v c told unseen same line down =
     let some : Bool = room_after kind (seen_of c) told in
@@ -42,24 +42,24 @@ down_told kind v c told unseen same line down =
       line = is_up c;
       has_room = some;
       has_looked = kind.looks || (told.has_looked && not signal);
-      spare = spare_after kind signal (rest_of c) told;
+      spare = spare_after kind v signal (rest_of c) told;
     }) (none_signalled kind v c told down) ∙
     (ap (λ (looks : Bool). record told {
       line = is_up c;
       has_room = some;
       has_looked = looks || (told.has_looked && true);
-      spare = spare_after kind false (rest_of c) told;
+      spare = spare_after kind v false (rest_of c) told;
     }) unseen ∙
     (ap (λ (up : Bool). record told {
       line = up;
       has_room = some;
       has_looked = told.has_looked && true;
-      spare = spare_after kind false (rest_of c) told;
+      spare = spare_after kind v false (rest_of c) told;
     }) (down ∙ sym line) ∙
     (ap (λ (looked : Bool). record told {
       has_room = some;
       has_looked = looked;
-      spare = spare_after kind false (rest_of c) told;
+      spare = spare_after kind v false (rest_of c) told;
     }) (with_true told.has_looked) ∙
     ap (λ (spare : ℕ). record told { has_room = some; spare = spare }) same))))
 
@@ -192,15 +192,16 @@ read_settled c w s =
     (unmoved-read offsets.DATA c s.unmoved)
 
 pub read_after : {size : FifoSize} (p : PortState) → IsLive size (expire (after_read offsets.DATA p.chip)) → IsPort p →
-    (p.chip.latches.ier == 0) ≡ true → p.told.has_room ≡ true → p.told.spare ≡ 0 →
+    (p.chip.latches.ier == 0) ≡ true → p.told.has_room ≡ true →
     record { chip = expire (after_read offsets.DATA p.chip); told = p.told } ≡ after (Read offsets.DATA) p
-read_after p w h off room spent =
+read_after p w h off room =
     let c : ChipState = p.chip in
     let call : PortCall = Read offsets.DATA in
     let d : ChipState = after_read offsets.DATA c in
     let down : p.told.line ≡ false = h.told.line ∙ off_down c off in
     let some : has_room d ≡ true = room_read c (room_then p.told.has_room (has_room c) (is_empty c) h.told.room room) in
-    let same : p.told.spare - 1 ≡ p.told.spare = omega (arith, spent) in
+    let same : spare_after (kind_of call c) (is_up d) false (rest_of (expire d)) p.told ≡ p.told.spare =
+    ap (λ (line : Bool). if line && not (is_up d) then p.told.spare - 1 else p.told.spare) down in
     ap (λ (b : Bool). record { chip = expire d; told = record p.told { has_room = b } })
     (room ∙ sym (known_room (kind_of call c) (expire d) p.told room ∙ some)) ∙
     (ap (λ (t : Told). record { chip = expire d; told = t })
@@ -234,16 +235,11 @@ read_todo p w h off room =
 pub record ReadsPolled (p : PortState) : Type 0 where
   pub off : (p.chip.latches.ier == 0) ≡ true
   pub room : p.told.has_room ≡ true
-  pub spent : p.told.spare ≡ 0
-
-zero_is : (n : ℕ) → (n == 0) ≡ true → n ≡ 0
-zero_is n e = grind (arith, common_steps)
 
 pub reads_parts : (p : PortState) → reads_polled p ≡ true → ReadsPolled p
 reads_parts p e =
     let a = each (p.chip.latches.ier == 0) _ e in
-    let b = each p.told.has_room _ a.1 in
-    record { off = a.0; room = b.0; spent = zero_is p.told.spare b.1 }
+    record { off = a.0; room = a.1 }
 
 pub no_interrupts : (c : ChipState) (result : Bool) → result ≡ not (c.latches.ier == 0) → result ≡ false → (c.latches.ier == 0) ≡ true
 no_interrupts c result e off = turned (c.latches.ier == 0) (sym e ∙ off)
@@ -266,4 +262,4 @@ pub did_read : {size : FifoSize} (p : PortState) (x : ChipState) → IsLive size
     ReadsPolled p →
     x ≡ expire (after_read offsets.DATA p.chip) → record { chip = x; told = p.told } ≡ after (Read offsets.DATA) p
 did_read p x w h parts e =
-    ap (λ (y : ChipState). record { chip = y; told = p.told }) e ∙ read_after p w h parts.off parts.room parts.spent
+    ap (λ (y : ChipState). record { chip = y; told = p.told }) e ∙ read_after p w h parts.off parts.room

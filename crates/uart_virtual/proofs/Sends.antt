@@ -1,6 +1,6 @@
 -- A byte that the guest writes while the transmitter is idle is on the output after the time of the call.
-use Rattle.std.proofs.Common.{◌≡◌, ℕ, ◌+◌, Bool, true, false, not, ◌&&◌}
-use Rattle.std.proofs.Common.{◌||◌, ◌==◌, ◌⊎◌, inl, inr, min, nat_lt, List, [], ◌∷◌}
+use Rattle.std.proofs.Common.{◌≡◌, ℕ, ◌+◌, Bool, true, false}
+use Rattle.std.proofs.Common.{◌==◌, ◌⊎◌, inl, inr, min, nat_lt, List, [], ◌∷◌}
 use Rattle.std.proofs.Common.{length, Option, Some, None, is_some, refl, ap, sym, ◌∙◌, subst, arith}
 use Rattle.std.proofs.lemmas.Grind.{common_steps}
 use Rattle.uart_spec.specs.declared.registers.offsets.TheConstants as offsets
@@ -20,8 +20,7 @@ use Rattle.uart_chip.proofs.soundness.Sounds.{steady_ticks, steady_write}
 use Rattle.uart_live.proofs.Sends.{Sends, sends}
 use Rattle.uart_virtual.specs.declared.told.Kind.{Kind}
 use Rattle.uart_virtual.specs.declared.told.Told.{Told}
-use Rattle.uart_virtual.specs.Port.{settle, settle_ticks, IsStill, tell, todo_of, is_up, seen_of, is_news, rest_of, spare_after}
-use Rattle.uart_virtual.specs.Port.{ignores_falls}
+use Rattle.uart_virtual.specs.Port.{settle, settle_ticks, IsStill, tell, todo_of}
 use Rattle.uart_virtual.proofs.Times.{still_ticks, tick-shifted, last_tick}
 
 -- nothing in the queue and in the shift register
@@ -145,37 +144,27 @@ settle-sent value c w still e = (
 
 -- ---- what is told
 
--- if the line was down, or a signal covers it, whether the line was up all the time is the same
-same_rise : (up line covered news v w : Bool) → (not line || not covered) ≡ true →
-    (up && (not line || (news || (not v && covered)))) ≡ (up && (not line || (news || (not w && covered))))
-same_rise up false covered news v w e = refl
-same_rise up true true news v w e = absurd (cc)
-same_rise up true false news true true e = refl
-same_rise up true false news true false e = refl
-same_rise up true false news false true e = refl
-same_rise up true false news false false e = refl
+-- if the line was down before, whether it was up all the time makes no difference
+was_down : (told : Told) → told.line ≡ false → record told { line = false } ≡ told
+was_down told e = ap (λ (line : Bool). record told { line = line }) (sym e)
 
-pub same_told : (kind : Kind) (v w : Bool) (ended : ChipState) (told : Told) → ignores_falls told ≡ true →
+same_told : (kind : Kind) (v w : Bool) (ended : ChipState) (told : Told) → told.line ≡ false →
     tell kind v ended told ≡ tell kind w ended told
 same_told kind v w ended told e =
-    ap (λ (signal : Bool). record (tell kind w ended told) {
-      has_looked = kind.looks || (told.has_looked && not signal);
-      spare = spare_after kind signal (rest_of ended) told;
-    }) (same_rise (is_up ended) told.line (told.spare == 0) (is_news kind (seen_of ended)) v w e)
+    subst (λ (t : Told). tell kind v ended t ≡ tell kind w ended t) (was_down told e) refl
 
-pub same_todo : (kind : Kind) (v w : Bool) (ended : ChipState) (told : Told) → ignores_falls told ≡ true →
+same_todo : (kind : Kind) (v w : Bool) (ended : ChipState) (told : Told) → told.line ≡ false →
     todo_of kind v ended told ≡ todo_of kind w ended told
 same_todo kind v w ended told e =
-    ap (λ (signal : Bool). record (todo_of kind w ended told) { signal = signal })
-    (same_rise (is_up ended) told.line (told.spare == 0) (is_news kind (seen_of ended)) v w e)
+    subst (λ (t : Told). todo_of kind v ended t ≡ todo_of kind w ended t) (was_down told e) refl
 
 -- the same, or the line was down before
 pub told_alike : (kind : Kind) (v w : Bool) (ended : ChipState) (told : Told) → ((told.line ≡ false) ⊎ (v ≡ w)) →
     tell kind v ended told ≡ tell kind w ended told
-told_alike kind v w ended told (inl e) = same_told kind v w ended told (rw e refl)
+told_alike kind v w ended told (inl e) = same_told kind v w ended told e
 told_alike kind v w ended told (inr e) = ap (λ (up : Bool). tell kind up ended told) e
 
 pub todo_alike : (kind : Kind) (v w : Bool) (ended : ChipState) (told : Told) → ((told.line ≡ false) ⊎ (v ≡ w)) →
     todo_of kind v ended told ≡ todo_of kind w ended told
-todo_alike kind v w ended told (inl e) = same_todo kind v w ended told (rw e refl)
+todo_alike kind v w ended told (inl e) = same_todo kind v w ended told e
 todo_alike kind v w ended told (inr e) = ap (λ (up : Bool). todo_of kind up ended told) e

@@ -1,6 +1,6 @@
 -- When the interrupt line stays as it is: while time passes, outside of loopback and while no character can move; and at a
 -- read of LSR that shows no error.
-use Rattle.std.proofs.Common.{◌≡◌, ℕ, zero, suc, ◌+◌, Bool, true, false, not, ◌&&◌, ◌||◌, ◌==◌, min, nat_lt, List, [], ◌∷◌, length}
+use Rattle.std.proofs.Common.{◌≡◌, ℕ, zero, suc, ◌+◌, ◌-◌, Bool, true, false, not, ◌&&◌, ◌||◌, ◌==◌, min, nat_lt, List, [], ◌∷◌, length}
 use Rattle.std.proofs.Common.{Option, Some, None, is_some, take, bit_and, bit_or, refl, ap, sym, ◌∙◌, subst, arith, if◌then◌else◌}
 use Rattle.std.proofs.lemmas.Grind.{common_steps}
 use Rattle.uart_spec.specs.Bits.{has_any, flag}
@@ -26,9 +26,11 @@ use Rattle.uart_chip.proofs.soundness.Sounds.{latches-ticks}
 use Rattle.uart_chip.proofs.AccessMoves.{both_if}
 use Rattle.uart_live.proofs.Sends.{each, unset}
 use Rattle.uart_virtual.specs.Port.{PortCall, Read, Write, Receive, ReceiveOne, SetLines, TakeOutput}
-use Rattle.uart_virtual.specs.Port.{written}
+use Rattle.uart_virtual.specs.Port.{written, looks, moves_data, rest_of, todo}
+use Rattle.uart_spec.specs.declared.registers.offsets.TheConstants as offsets
+use Rattle.std.proofs.lemmas.Bool.{eqb-true}
 use Rattle.uart_virtual.specs.Port.{is_up, stays_up, happen, settle, kind_of, seen_of, is_news, accepted, arrive_all, IsStill, IsUnmoved}
-use Rattle.uart_virtual.specs.Laws.{LineStays, EachDipIsSignalled}
+use Rattle.uart_virtual.specs.Laws.{LineStays, EachDipIsSignalled, AFallUsesOneUp}
 use Rattle.uart_virtual.proofs.Times.{unmoved-read, unmoved-all, still_too}
 
 -- ---- a pending THR-empty interrupt stays
@@ -64,7 +66,7 @@ unseen a e g true false = simp and_or refl
 unseen a e g false true = simp and_or refl
 unseen a e g false false = simp and_or refl
 
-same_errors : (c : ChipState) (t : TransmitterState) (i : ℕ) →
+pub same_errors : (c : ChipState) (t : TransmitterState) (i : ℕ) →
     has_any (line_status (record c { transmitter = t; receiver = record c.receiver { timeout_ticks = i } })) LSR.LINE_ERRORS.0 ≡
     has_any (line_status c) LSR.LINE_ERRORS.0
 same_errors c t i =
@@ -214,17 +216,39 @@ signals_dip false line news was covered u w h = absurd (cc)
 signals_dip true line news true covered u w h = absurd (cc)
 signals_dip true line news false false u w h = absurd (cc)
 
+-- a line that was down at a moment of the call did not stay up
+fell : (call : PortCall) (c : ChipState) (n : ℕ) → IsStill c → is_up (ticks n (happen call c)) ≡ false →
+    stays_up call (happen call c) ≡ false
+fell call c n still down = go (stays_up call (happen call c)) refl
+  where
+    go : (b : Bool) → stays_up call (happen call c) ≡ b → b ≡ false
+    go false e = refl
+    go true e = let up_then : is_up (ticks n (happen call c)) ≡ true = stays-up call c n still e in absurd (cc)
+
 pub dip_signalled : EachDipIsSignalled
 dip_signalled call p n h down up free =
     signals_dip (is_up (settle (happen call p.chip))) p.told.line (is_news (kind_of call p.chip) (seen_of (settle (happen call p.chip))))
-    (stays_up call (happen call p.chip)) (p.told.spare == 0) up (fell (stays_up call (happen call p.chip)) refl) (none p.told.spare free)
+    (stays_up call (happen call p.chip)) (p.told.spare == 0) up (fell call p.chip n h.still down) (none p.told.spare free)
   where
-    fell : (b : Bool) → stays_up call (happen call p.chip) ≡ b → b ≡ false
-    fell false e = refl
-    fell true e = let up_then : is_up (ticks n (happen call p.chip)) ≡ true = stays-up call p.chip n h.still e in absurd (cc)
-
     none : (n : ℕ) → n ≡ 0 → (n == 0) ≡ true
     none n e = grind (arith, common_steps)
+
+-- an access of DATA is no look
+unlooked : (call : PortCall) → moves_data call ≡ true → looks call ≡ false
+unlooked (Read offset) m = ap (λ (n : ℕ). n == offsets.ISR) (eqb-true offset offsets.DATA m)
+unlooked _ m = refl
+
+uses_one : (looked moves knows line was signal : Bool) (n rest : ℕ) → looked ≡ false → moves ≡ true → line ≡ true → was ≡ false →
+    signal ≡ false →
+    (if looked then 0 else if signal then (if moves && knows then rest else 0)
+    else if moves && (line && not was) then n - 1 else n) ≡ n - 1
+uses_one looked moves knows line was signal n rest l m u w s = rw (l, m, u, w, s) refl
+
+pub a_fall_uses_one_up : AFallUsesOneUp
+a_fall_uses_one_up call p n h moves up down quiet =
+    uses_one (looks call) (moves_data call) p.told.has_looked p.told.line (stays_up call (happen call p.chip)) (todo call p).signal
+    p.told.spare (rest_of (settle (happen call p.chip))) (unlooked call moves) moves (h.told.line ∙ up)
+    (fell call p.chip n h.still down) quiet
 
 -- ---- a read that is quiet leaves the line as it is
 

@@ -21,7 +21,7 @@ use Rattle.uart_virtual.specs.declared.told.Told.{Told}
 use Rattle.uart_virtual.specs.Port.{PortState, PortCall, Write, Receive, after, todo}
 use Rattle.uart_virtual.specs.Port.{happen, brings, looks, moves_data, kind_of, stays_up, settle, settle_ticks, is_up, idle}
 use Rattle.uart_virtual.specs.Port.{has_room, is_empty, IsTold, IsPaced, tell, todo_of, seen_of, is_signalled, rest_of, spare_after}
-use Rattle.uart_virtual.specs.Port.{room_after}
+use Rattle.uart_virtual.specs.Port.{falls, room_after}
 use Rattle.uart_virtual.specs.Port.{differ, arrive_all, accepted}
 use Rattle.uart_virtual.specs.Laws.{after_all, some_told, ToldStays, SignalsAreUp, EachRiseIsSignalled, ASignalCovers}
 use Rattle.uart_virtual.specs.Laws.{none_looks, NoLookCoversNothing, AFullFifoIsSignalled, NoOtherSignals}
@@ -95,39 +95,42 @@ signals_up call p h = first (is_up (settle (happen call p.chip))) _ h
     first false b e = e
 
 -- how many more accesses are covered, by what is known of a call
-abbrev covered : (looks moves knows signal fifo : Bool) → FifoSize → ℕ → ℕ
-covered looks moves knows signal fifo size n =
+abbrev covered : (looks moves knows signal fell fifo : Bool) → FifoSize → ℕ → ℕ
+covered looks moves knows signal fell fifo size n =
     if looks then 0
     else if signal then (if moves && knows then room fifo size - 1 else 0)
-    else if moves then n - 1
+    else if moves && fell then n - 1
     else n
 
-covers : (l m k s f : Bool) (size : FifoSize) (n : ℕ) → (covered l m k s f size n ≢ 0) → (l ≡ false) ×
-    (((s ≡ true) × ((m ≡ true) × ((k ≡ true) × (covered l m k s f size n ≡ characters size - 1)))) ⊎
-    ((s ≡ false) × ((n ≢ 0) × (covered l m k s f size n ≡ (if m then n - 1 else n)))))
-covers true m k s f size n h = absurd (h refl)
-covers false true true true true size n h = (refl, inl (refl, (refl, (refl, refl))))
-covers false true true true false size n h = absurd (h refl)
-covers false true false true f size n h = absurd (h refl)
-covers false false k true f size n h = absurd (h refl)
-covers false true k false f size n h = (refl, inr (refl, (some n h, refl)))
+covers : (l m k s d f : Bool) (size : FifoSize) (n : ℕ) → (covered l m k s d f size n ≢ 0) → (l ≡ false) ×
+    (((s ≡ true) × ((m ≡ true) × ((k ≡ true) × (covered l m k s d f size n ≡ characters size - 1)))) ⊎
+    ((s ≡ false) × ((n ≢ 0) × (covered l m k s d f size n ≡ (if m && d then n - 1 else n)))))
+covers true m k s d f size n h = absurd (h refl)
+covers false true true true d true size n h = (refl, inl (refl, (refl, (refl, refl))))
+covers false true true true d false size n h = absurd (h refl)
+covers false true false true d f size n h = absurd (h refl)
+covers false false k true d f size n h = absurd (h refl)
+covers false true k false true f size n h = (refl, inr (refl, (some n h, refl)))
   where
     some : (n : ℕ) → (n - 1 ≢ 0) → n ≢ 0
     some n h e = h (omega (arith, e))
-covers false false k false f size n h = (refl, inr (refl, (h, refl)))
+covers false true k false false f size n h = (refl, inr (refl, (h, refl)))
+covers false false k false d f size n h = (refl, inr (refl, (h, refl)))
 
 pub a_signal_covers : ASignalCovers
 a_signal_covers call p h =
     let ended : ChipState = settle (happen call p.chip) in
-    covers (looks call) (moves_data call) p.told.has_looked (todo call p).signal ended.fifo ended.transmitter.size p.told.spare h
+    covers (looks call) (moves_data call) p.told.has_looked (todo call p).signal (falls (stays_up call (happen call p.chip)) p.told)
+    ended.fifo ended.transmitter.size p.told.spare h
 
-none_left : (s m k : Bool) (n rest : ℕ) → k ≡ false → n ≡ 0 →
-    ((k && not s) ≡ false) × ((if s then (if m && k then rest else 0) else if m then n - 1 else n) ≡ 0)
-none_left s m true n rest e z = absurd (cc)
-none_left true true false n rest e z = (refl, refl)
-none_left true false false n rest e z = (refl, refl)
-none_left false true false n rest e z = (refl, omega (arith, z))
-none_left false false false n rest e z = (refl, z)
+none_left : (s m k d : Bool) (n rest : ℕ) → k ≡ false → n ≡ 0 →
+    ((k && not s) ≡ false) × ((if s then (if m && k then rest else 0) else if m && d then n - 1 else n) ≡ 0)
+none_left s m true d n rest e z = absurd (cc)
+none_left true true false d n rest e z = (refl, refl)
+none_left true false false d n rest e z = (refl, refl)
+none_left false true false true n rest e z = (refl, omega (arith, z))
+none_left false true false false n rest e z = (refl, z)
+none_left false false false d n rest e z = (refl, z)
 
 pub no_look_covers_nothing : NoLookCoversNothing
 no_look_covers_nothing [] p h k n = (k, n)
@@ -135,7 +138,8 @@ no_look_covers_nothing (call ∷ calls) p h k n =
     let both = each (not (looks call)) (none_looks calls) h in
     let blind : looks call ≡ false = unset (looks call) both.0 in
     let rest : ℕ = rest_of (settle (happen call p.chip)) in
-    let left = none_left (todo call p).signal (moves_data call) p.told.has_looked p.told.spare rest k n in
+    let fell : Bool = falls (stays_up call (happen call p.chip)) p.told in
+    let left = none_left (todo call p).signal (moves_data call) p.told.has_looked fell p.told.spare rest k n in
     no_look_covers_nothing calls (after call p) both.1 (rw blind left.0) (rw blind left.1)
 
 -- ---- input
@@ -276,7 +280,7 @@ nothing_told c told h =
       line = up;
       has_room = room_after idle (seen_of c) told;
       has_looked = told.has_looked && not signal;
-      spare = spare_after idle signal (rest_of c) told;
+      spare = spare_after idle up signal (rest_of c) told;
     }) (quiet_signal c told h) ∙
     (ap (λ (line : Bool). record told {
       line = line;

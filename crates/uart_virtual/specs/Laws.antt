@@ -15,7 +15,7 @@ use Rattle.uart_live.specs.declared.fixed.TheConstants.{WIRE_ROOM}
 use Rattle.uart_virtual.specs.declared.told.Todo.{Todo}
 use Rattle.uart_virtual.specs.Port.{PortState, PortCall, Read, Write, Receive, ReceiveOne}
 use Rattle.uart_virtual.specs.Port.{SetLines, TakeOutput, after, todo, todo_of, untold}
-use Rattle.uart_virtual.specs.Port.{happen, brings, looks, moves_data, stays_up, settle_ticks, is_up, renewed}
+use Rattle.uart_virtual.specs.Port.{falls, happen, brings, looks, moves_data, stays_up, settle_ticks, is_up, renewed}
 use Rattle.uart_virtual.specs.Port.{has_room, is_empty, accepted, IsTold, IsStill, IsPort}
 
 -- the port after these calls in turn
@@ -65,27 +65,42 @@ EachDipIsSignalled =
     -- no earlier signal covers that
     p.told.spare ≡ 0 → (todo call p).signal ≡ true
 
--- the call signals, and this covers as many accesses of DATA more as a FIFO holds characters besides one, which are 15
+-- the call signals, and this covers as many falls of the line more as a FIFO holds characters besides one, which are 15
 -- with FIFOs of 16: the guest moves data, and has looked since the last signal
 abbrev pub IsCovering : PortCall → PortState → Type 0
 IsCovering call p =
     ((todo call p).signal ≡ true) × ((moves_data call ≡ true) × ((p.told.has_looked ≡ true) ×
     ((after call p).told.spare ≡ characters (after call p).chip.transmitter.size - 1)))
 
--- the call does not signal, an earlier signal still covers it, and an access of DATA is one of those that it covers
+-- the call does not signal, an earlier signal still covers it, and a fall of the line in an access of DATA is one of
+-- those that it covers
 abbrev pub IsCovered : PortCall → PortState → Type 0
 IsCovered call p =
+    let fell = falls (stays_up call (happen call p.chip)) p.told in
     ((todo call p).signal ≡ false) × ((p.told.spare ≢ 0) ×
-    ((after call p).told.spare ≡ (if moves_data call then p.told.spare - 1 else p.told.spare)))
+    ((after call p).told.spare ≡ (if moves_data call && fell then p.told.spare - 1 else p.told.spare)))
 
 -- a signal covers others only if it was given since the guest last read ISR, while the guest was moving data, and it
--- covers at most as many accesses of DATA more as a FIFO holds characters besides one
+-- covers at most as many falls of the line more as a FIFO holds characters besides one
 abbrev pub ASignalCovers : Type 0
 ASignalCovers =
     (call : PortCall) (p : PortState) →
     -- a signal covers accesses after the call
     (after call p).told.spare ≢ 0 →
     (looks call ≡ false) × (IsCovering call p ⊎ IsCovered call p)
+
+-- each fall of the line in an access of DATA that is not signalled uses up one of those that a signal covers
+abbrev pub AFallUsesOneUp : Type 0
+AFallUsesOneUp =
+    (call : PortCall) (p : PortState) (n : ℕ) → IsPort p →
+    -- the guest reads or writes DATA
+    moves_data call ≡ true →
+    -- the line was up before the call
+    is_up p.chip ≡ true →
+    -- it was down at a moment of the call
+    is_up (ticks n (happen call p.chip)) ≡ false →
+    -- the call does not signal
+    (todo call p).signal ≡ false → (after call p).told.spare ≡ p.told.spare - 1
 
 -- none of these calls is a look of the guest
 abbrev pub none_looks : List PortCall → Bool

@@ -167,14 +167,18 @@ abbrev pub is_signalled : Kind → (was_up : Bool) → Seen → Told → Bool
 is_signalled kind was_up seen told =
     seen.level && (not told.line || (is_news kind seen || (not was_up && (told.spare == 0))))
 
--- how many more accesses of DATA a signal covers. One that is given when the guest has looked, and now moves data,
+-- the line was up before the call, and down at a moment of it
+abbrev pub falls : (was_up : Bool) → Told → Bool
+falls was_up told = told.line && not was_up
+
+-- how many more falls of the line a signal covers. One that is given when the guest has looked, and now moves data,
 -- covers what is left of a FIFO: the guest is in its handler, and this one signal calls the handler again. Any other
--- signal covers nothing. A look ends what is covered
-abbrev pub spare_after : Kind → (signal : Bool) → (rest : ℕ) → Told → ℕ
-spare_after kind signal rest told =
+-- signal covers nothing. A fall in an access of DATA uses one up, and a look ends what is covered
+abbrev pub spare_after : Kind → (was_up signal : Bool) → (rest : ℕ) → Told → ℕ
+spare_after kind was_up signal rest told =
     if kind.looks then 0
     else if signal then (if kind.moves_data && told.has_looked then rest else 0)
-    else if kind.moves_data then told.spare - 1
+    else if kind.moves_data && falls was_up told then told.spare - 1
     else told.spare
 
 -- the monitor may take it that there is room: it knows that, or is told now. After there was none it is told when
@@ -191,7 +195,7 @@ told_after kind was_up seen told =
       line = seen.level;
       has_room = room_after kind seen told;
       has_looked = kind.looks || (told.has_looked && not signal);
-      spare = spare_after kind signal seen.rest told;
+      spare = spare_after kind was_up signal seen.rest told;
     }
 
 -- the levels are not the same
@@ -277,10 +281,6 @@ pub record IsPort (p : PortState) : Type 0 where
   pub told : IsTold p
   pub still : IsStill p.chip
 
--- a fall of the line within a call makes no difference to what is told: the line was down before, or a signal covers it
-abbrev pub ignores_falls : Told → Bool
-ignores_falls told = not told.line || not (told.spare == 0)
-
 -- a read that returns this value is no look, and changes neither the line nor the room: LSR shows no error, or the
 -- register has no side effects
 abbrev pub is_quiet : (offset value : ℕ) → Bool
@@ -303,10 +303,9 @@ nothing_new p =
 abbrev pub is_polled : PortState → Bool
 is_polled p = p.chip.latches.ier == 0
 
--- after a read of DATA the monitor has nothing to do: no interrupt is enabled, the monitor knows of room, and no signal
--- covers others
+-- after a read of DATA the monitor has nothing to do: no interrupt is enabled, and the monitor knows of room
 abbrev pub reads_polled : PortState → Bool
-reads_polled p = is_polled p && (p.told.has_room && (p.told.spare == 0))
+reads_polled p = is_polled p && p.told.has_room
 
 -- after a byte of input the monitor has nothing to do: no interrupt is enabled, and the monitor knows of room
 abbrev pub receives_polled : PortState → Bool
@@ -322,10 +321,9 @@ receives_first p =
 abbrev pub reads_last : PortState → Bool
 reads_last p = (length (waiting p.chip.receiver) == 1) && not (is_dlab_set p.chip.latches)
 
--- the host can take a byte that the guest writes to DATA before it is on the output: it would be alone there at once,
--- and a fall of the line within the call makes no difference
+-- the host can take a byte that the guest writes to DATA before it is on the output: it would be alone there at once
 abbrev pub passes : PortState → Bool
-passes p = ignores_falls p.told && ((length p.chip.transmitter.wire == 0) && sends_at_once p.chip)
+passes p = (length p.chip.transmitter.wire == 0) && sends_at_once p.chip
 
 -- the byte, cut to the word length, if the host can take it before it is on the output
 abbrev pub passing : (value : ℕ) → PortState → Option ℕ

@@ -7,7 +7,7 @@ ghost use Rattle.uart_virtual.specs.Clock.{ARiseIsGivenAtOnce, AClockAddsNone, A
 ghost use Rattle.uart_virtual.specs.Laws.{LevelIsTold, ToldStays, SignalsAreUp, LineStays};
 ghost use Rattle.uart_virtual.specs.Laws.{EachRiseIsSignalled, EachDipIsSignalled};
 ghost use Rattle.uart_virtual.specs.Laws.{AFullFifoIsSignalled, NoOtherSignals};
-ghost use Rattle.uart_virtual.specs.Laws.{ASignalCovers, NoLookCoversNothing};
+ghost use Rattle.uart_virtual.specs.Laws.{ASignalCovers, AFallUsesOneUp, NoLookCoversNothing};
 ghost use Rattle.uart_virtual.specs.Laws.{RoomIsTold, RoomIsToldAtOnce, RoomIsToldOnce};
 ghost use Rattle.uart_virtual.specs.Laws.{RefusalLeavesNoRoom, RestoredIsTold};
 ghost use Rattle.uart_virtual.specs.Laws.{BytesGoOut, EmptyThrTakesAByte, FcrKeepsTheOutput};
@@ -29,8 +29,9 @@ pub fn level_is_told()
 ///
 /// A line that was down at any moment of a call, and is up at its end, is signalled too, unless an
 /// earlier signal covers that. A signal covers others only if it was given since the guest last
-/// read ISR, and at most as many accesses of DATA as a FIFO holds characters besides one: 15 with
-/// FIFOs of 16. A guest that never reads ISR has none covered. There are no other signals.
+/// read ISR, and at most as many falls of the line as a FIFO holds characters besides one: 15 with
+/// FIFOs of 16. Each fall in an access of DATA uses one up, and an access in which the line stays
+/// up none. A guest that never reads ISR has none covered. There are no other signals.
 pub fn rises_are_signalled()
     // promise: each rise of the line from call to call is signalled, and input that leaves no room;
     //   nothing else but falls within a call
@@ -42,10 +43,13 @@ pub fn rises_are_signalled()
     // with: rises_are_signalled.dip, rises_are_signalled.covers, rises_are_signalled.blind
     // shown by: a_burst_is_one_signal, a_guest_that_never_looks_is_signalled_each_time,
     //   a_fall_while_time_passes_in_loopback_is_signalled
-    // promise: a signal covers as many accesses of DATA more as a FIFO holds characters, besides
-    //   one, so a burst that fills a FIFO of 64 is one signal
-    // with: rises_are_signalled.covers, rest_of
-    // shown by: a_burst_is_out_after_one_interrupt, a_burst_of_64_bytes_is_one_interrupt
+    // promise: a signal covers as many falls of the line more as a FIFO holds characters, besides
+    //   one, so a burst that fills a FIFO of 64 is one signal; what is written while the line stays
+    //   up uses none of them
+    // with: rises_are_signalled.covers, rises_are_signalled.used, rest_of
+    // shown by: a_burst_is_out_after_one_interrupt, a_burst_of_64_bytes_is_one_interrupt,
+    //   what_another_processor_prints_takes_nothing_from_a_handler
+    // refused: what_is_written_uses_a_signal_up
     // proved: Outside of loopback the line does not fall while time passes
     // on: `uart_virtual::laws::rises_are_signalled`, clause `stays`
     // if the line is down after a call and up after a later one, a call between has signalled
@@ -54,6 +58,8 @@ pub fn rises_are_signalled()
     // earlier signal covers that
     ensures dip { EachDipIsSignalled }
     ensures covers { ASignalCovers }
+    // a fall of the line in an access of DATA that is not signalled uses up one that is covered
+    ensures used { AFallUsesOneUp }
     ensures blind { NoLookCoversNothing }
     // input that leaves no room is signalled, if the line is up when the call ends
     ensures full { AFullFifoIsSignalled }

@@ -6,7 +6,7 @@ ghost use Rattle.uart_chip.specs.Chip.{ChipState};
 ghost use Rattle.uart_chip.specs.Jumps.{most_jumps};
 ghost use Rattle.uart_chip.specs.Sending.{sends_at_once};
 ghost use Rattle.uart_live.specs.Live.{IsLive};
-ghost use Rattle.uart_live.specs.Quick.{clear_status};
+ghost use Rattle.uart_live.specs.Quick.{clear_status, when_due};
 ghost use Rattle.uart_live.specs.Size.{fifo_size, is_size};
 ghost use Rattle.uart_live.specs.declared.errors.ChipError.{ChipError};
 ghost use Rattle.uart_spec.specs.Bits.{IsWithin};
@@ -200,16 +200,19 @@ fn rest_of<const FIFO: usize>(chip: &LiveChipWith<FIFO>) -> u8
     }
 }
 
-// Returns how many more accesses of DATA the last signal covers.
+// Returns how many more falls of the line the last signal covers.
 //
 // A burst of 16 bytes takes the line down 16 times. The first of them is signalled, which calls the
 // guest's handler again once it is done; 15 signals more would say nothing. But a guest that does
 // not look may have returned from its handler before any of them. So a signal covers others only
 // after a look, and no more than a FIFO has room for: `rest` says how many that are, with the one
-// access in which the signal is given.
-fn spare_after(kind: Kind, signal: bool, rest: u8, told: Told) -> u8
-    ensures { result ≡ port.spare_after kind signal rest told }
+// access in which the signal is given. An access in which the line stays up uses none of them: so
+// what another processor prints meanwhile takes nothing from a handler that reads.
+#[inline(always)]
+fn spare_after(kind: Kind, was_up: bool, signal: bool, rest: u8, told: Told) -> u8
+    ensures { result ≡ port.spare_after kind was_up signal rest told }
 {
+    let fell = told.line && !was_up;
     if kind.looks {
         0
     } else if signal {
@@ -218,7 +221,7 @@ fn spare_after(kind: Kind, signal: bool, rest: u8, told: Told) -> u8
         } else {
             0
         }
-    } else if kind.moves_data {
+    } else if kind.moves_data && fell {
         told.spare.saturating_sub(1)
     } else {
         told.spare
@@ -278,7 +281,7 @@ pub fn tell(seen: Seen, was_up: bool, told: &mut Told, kind: Kind) -> Todo
         line: level,
         has_room,
         has_looked: kind.looks || (told.has_looked && !signal),
-        spare: spare_after(kind, signal, seen.rest, *told),
+        spare: spare_after(kind, was_up, signal, seen.rest, *told),
     };
     todo
 }
@@ -451,31 +454,31 @@ fn read<const FIFO: usize>(chip: &mut LiveChipWith<FIFO>, offset: u8, told: &mut
     }
 }
 
-// Returns whether a fall of the line within a call makes no difference to what is told.
-fn ignores_falls(told: Told) -> bool
-    ensures { result ≡ port.ignores_falls told }
+// Returns whether something else than an empty THR keeps the line up, if it was up.
+#[inline(always)]
+fn is_kept_up<const FIFO: usize>(chip: &LiveChipWith<FIFO>, told: Told) -> bool
+    ensures up { told.line ≡ true → result ≡ is_up (when_due false chip.now) }
+    ensures down { told.line ≡ false → result ≡ false }
 {
-    !told.line || told.spare != 0
+    told.line && chip.interrupts_when_due(false)
 }
 
-// Returns whether a write can be made by `send`: it is a byte that meets an idle transmitter, and
-// what is told does not depend on the level of the line in between.
-fn is_fast<const FIFO: usize>(chip: &LiveChipWith<FIFO>, offset: u8, told: Told) -> bool
-    ensures fast { result ≡ true → (offset ≡ offsets.DATA) ×
-        ((sends_at_once chip.now ≡ true) × (port.ignores_falls told ≡ true)) }
+// Returns whether a write can be made by `send`: it is a byte that meets an idle transmitter.
+fn is_fast<const FIFO: usize>(chip: &LiveChipWith<FIFO>, offset: u8) -> bool
+    ensures fast { result ≡ true → (offset ≡ offsets.DATA) × (sends_at_once chip.now ≡ true) }
     ensures live { IsLive (fifo_size FIFO) chip.now }
 {
     let sends = chip.sends_at_once();
-    offset as usize == offsets::DATA && (sends && (!told.line || told.spare != 0))
+    offset as usize == offsets::DATA && sends
 }
 
-// Does the same as `write_slowly` for a byte that can be sent at once.
+// Does the same as `write_slowly` for a byte that can be sent at once. The byte ends the interrupt
+// of an empty THR, and brings it again. So the line stays up if it has another cause.
 #[inline]
 fn send<const FIFO: usize>(chip: &mut LiveChipWith<FIFO>, value: u8, told: &mut Told) -> Todo
     requires live { IsLive (fifo_size FIFO) chip.old }
     requires still { IsStill chip.old }
     requires sends { sends_at_once chip.old ≡ true }
-    requires settled { port.ignores_falls told.old ≡ true }
     ensures after { chip.new ≡ settle (port.written offsets.DATA value chip.old) }
     ensures still { IsStill chip.new }
     ensures holds { IsTold (record { chip = chip.new; told = told.new }) }
@@ -487,8 +490,11 @@ fn send<const FIFO: usize>(chip: &mut LiveChipWith<FIFO>, value: u8, told: &mut 
         result ≡ todo_of (kind_of call chip.old) (stays_up call c) (settle c) told.old }
 {
     let kind = kind_of_write(offsets::DATA as u8);
+    let was_up = chip.interrupts_when_due(false);
+    let is_on = chip.has_output_interrupt_on();
+    let level = was_up | is_on;
     chip.send_at_once(value);
-    decide(chip, false, told, kind)
+    decide_at(chip, level, was_up, told, kind)
 }
 
 // Writes a register, and raises a THR-empty interrupt if this is a write of FCR that discards bytes
@@ -554,7 +560,7 @@ fn write<const FIFO: usize>(
         let call = Write offset value in
         result ≡ todo_of (kind_of call chip.old) (stays_up call c) (settle c) told.old }
 {
-    if is_fast(chip, offset, *told) {
+    if is_fast(chip, offset) {
         send(chip, value, told)
     } else {
         write_slowly(chip, offset, value, told)
@@ -695,12 +701,11 @@ impl<const FIFO: usize> VirtualPortWith<FIFO> {
         ensures { result ≡ port.reads_polled self.now }
     {
         let is_polled = !self.chip.has_interrupts_on();
-        is_polled && (self.told.has_room && self.told.spare == 0)
+        is_polled && self.told.has_room
     }
 
-    /// Reads DATA for a guest that polls: if no interrupt is enabled, no signal covers others, and
-    /// the monitor knows of room for input. Then it has nothing to do. Otherwise returns `None`,
-    /// and nothing changes.
+    /// Reads DATA for a guest that polls: if no interrupt is enabled, and the monitor knows of room
+    /// for input. Then it has nothing to do. Otherwise returns `None`, and nothing changes.
     ///
     /// The value and the effect are those of [`VirtualPortWith::read`].
     #[inline]
@@ -755,14 +760,13 @@ impl<const FIFO: usize> VirtualPortWith<FIFO> {
         Some(Answer { value, todo })
     }
 
-    // Returns whether a byte that the guest writes to DATA would be alone on the output at once,
-    // and a fall of the line makes no difference.
+    // Returns whether a byte that the guest writes to DATA would be alone on the output at once.
     #[inline]
     fn passes(&self) -> bool
         ensures { result ≡ port.passes self.now }
     {
         let is_empty = self.chip.wire_room() == WIRE_ROOM;
-        ignores_falls(self.told) && (is_empty && self.chip.sends_at_once())
+        is_empty && self.chip.sends_at_once()
     }
 
     /// Returns the byte that goes out if the guest writes this value to DATA, if the host can take
@@ -801,18 +805,20 @@ impl<const FIFO: usize> VirtualPortWith<FIFO> {
         if !self.passes() {
             return None;
         }
+        let was_up = is_kept_up(&self.chip, self.told);
+        let is_on = self.chip.has_output_interrupt_on();
         let _passed = self.chip.pass_wire();
         // There is as much room for input as there was, and as many characters wait. So what the
         // monitor knows of that stays, and the chip need not be asked.
         let seen = Seen {
-            level: self.chip.is_interrupting(),
+            level: was_up | is_on,
             has_room: self.told.has_room,
             is_empty: false,
             rest: rest_of(&self.chip),
             ready: 0,
         };
         let kind = kind_of_write(offsets::DATA as u8);
-        Some(tell(seen, false, &mut self.told, kind))
+        Some(tell(seen, was_up, &mut self.told, kind))
     }
 
     /// Writes a value to the register at this offset for the guest. Returns what the monitor has to

@@ -33,9 +33,9 @@ impl SerialEvents for Events {
     }
 }
 
-struct Port(Console);
+struct Port<const FIFO: usize>(Console<FIFO>);
 
-impl Device for Port {
+impl<const FIFO: usize> Device for Port<FIFO> {
     fn read(&mut self, offset: u8) -> u8 {
         self.0.read(offset)
     }
@@ -58,13 +58,18 @@ impl Device for Port {
     }
 }
 
-type Console = Serial<Line, Events, Sink>;
+type Console<const FIFO: usize> = Serial<Line, Events, Sink, FIFO>;
 
-fn device(signals: Signals) -> Console {
-    Serial::with_events(Line(signals.clone()), Events(signals), sink())
+fn device<const FIFO: usize>(signals: Signals) -> Console<FIFO> {
+    Serial::try_with_events(Line(signals.clone()), Events(signals), sink())
+        .expect("there are FIFOs of this size")
 }
 
-fn drained(signals: Signals) -> Port {
+fn plain<const FIFO: usize>(signals: Signals) -> Port<FIFO> {
+    Port(device(signals))
+}
+
+fn drained<const FIFO: usize>(signals: Signals) -> Port<FIFO> {
     let mut serial = device(signals);
     serial
         .set_handler_drains(true)
@@ -72,14 +77,17 @@ fn drained(signals: Signals) -> Port {
     Port(serial)
 }
 
-fn clocked(signals: Signals) -> Port {
+fn clocked<const FIFO: usize>(signals: Signals) -> Port<FIFO> {
     let mut serial = device(signals);
     serial.set_clock(true).expect("the trigger does not fail");
     Port(serial)
 }
 
 fn main() {
-    linux::run("Serial", |signals| Port(device(signals)));
-    linux::run("drained", drained);
-    linux::run("with clock", clocked);
+    linux::run("Serial", plain::<16>);
+    linux::run("drained", drained::<16>);
+    linux::run("with clock", clocked::<16>);
+    linux::run("of 64", plain::<64>);
+    linux::run("of 64, drained", drained::<64>);
+    linux::run("of 64, with clock", clocked::<64>);
 }

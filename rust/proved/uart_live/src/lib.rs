@@ -13,11 +13,13 @@ extern crate geesetrunk_kit as std;
 extern crate geesetrunk_kit as bitflags;
 extern crate geesetrunk_kit as arrayvec;
 
+mod due;
 mod errors;
 mod fixed;
 mod live;
 pub mod sound;
 
+pub use due::interrupts_when_due;
 pub use errors::{ChipError, InputError, RestoreError};
 pub use fixed::WIRE_ROOM;
 pub use live::{LiveChip, LiveChipWith};

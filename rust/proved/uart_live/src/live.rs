@@ -2,6 +2,7 @@
 
 mod snapshot;
 
+use crate::due::interrupts_when_due;
 use crate::errors::{ChipError, InputError};
 use crate::fixed::{FixedFifo, FixedWire, NoMarks, WIRE_ROOM, is_size};
 use bitflags::Flags;
@@ -491,6 +492,60 @@ impl<const FIFO: usize> LiveChipWith<FIFO> {
     #[must_use]
     pub fn has_input_interrupt_on(&self) -> bool {
         self.uart.ier().intersects(IER::DATA_READY)
+    }
+
+    /// Returns whether the guest has the interrupt of an empty THR enabled.
+    ///
+    /// # Proved
+    ///
+    /// - *on*: returns [`has_any`](uart_spec::proved::bits#has_any) `self.now.latches.ier IER.THR_EMPTY.0`: the value has at least one of these bits.
+    /// - *live*: [`IsLive`](crate::proved::live#IsLive) `(fifo_size FIFO) self.now`: the chip is sound and has nothing of a schedule: no event is to come, no arrival has a mark, none can be lost unnoticed; the wire has room for at most as much as a wire may have, the FIFOs have this size and no switch of it, and flow control is left to the driver.
+    ///   - [`fifo_size`](crate::proved::size#fifo_size): the size of FIFOs that hold so many characters; a number that is no size counts as 16.
+    ///
+    /// <details><summary>The clauses</summary>
+    ///
+    /// [How to read them](uart_spec::proved):
+    ///
+    /// ```text
+    /// ensures on { result ≡ has_any self.now.latches.ier IER.THR_EMPTY.0 }
+    /// ensures live { IsLive (fifo_size FIFO) self.now }
+    /// ```
+    ///
+    /// </details>
+    #[inline]
+    #[must_use]
+    pub fn has_output_interrupt_on(&self) -> bool {
+        self.uart.ier().intersects(IER::THR_EMPTY)
+    }
+
+    /// Returns whether the interrupt line is up if a reception timeout is due, and a THR-empty
+    /// interrupt is pending or is not.
+    ///
+    /// For an owner who lets so much time pass that a timeout is due: then it is
+    /// `is_interrupting`, without a look at the trigger level and at the time.
+    ///
+    /// # Proved
+    ///
+    /// - *up*: returns `is_some (spec.interrupt (when_due is_thr_pending self.now))`.
+    ///   - [`interrupt`](uart_chip::proved::chip#interrupt): the interrupt of the highest priority among those that are enabled and pending.
+    ///   - [`when_due`](crate::proved::quick#when_due): a chip whose reception timeout is due, and whose THR-empty interrupt is pending, or is not.
+    /// - *live*: [`IsLive`](crate::proved::live#IsLive) `(fifo_size FIFO) self.now`: the chip is sound and has nothing of a schedule: no event is to come, no arrival has a mark, none can be lost unnoticed; the wire has room for at most as much as a wire may have, the FIFOs have this size and no switch of it, and flow control is left to the driver.
+    ///   - [`fifo_size`](crate::proved::size#fifo_size): the size of FIFOs that hold so many characters; a number that is no size counts as 16.
+    ///
+    /// <details><summary>The clauses</summary>
+    ///
+    /// [How to read them](uart_spec::proved):
+    ///
+    /// ```text
+    /// ensures up { result ≡ is_some (spec.interrupt (when_due is_thr_pending self.now)) }
+    /// ensures live { IsLive (fifo_size FIFO) self.now }
+    /// ```
+    ///
+    /// </details>
+    #[inline]
+    #[must_use]
+    pub fn interrupts_when_due(&self, is_thr_pending: bool) -> bool {
+        interrupts_when_due(&self.uart, is_thr_pending)
     }
 
     /// Reads DATA for the guest, as [`LiveChipWith::read`] does.

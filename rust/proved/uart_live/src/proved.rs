@@ -243,5 +243,18 @@ pub mod refused {}
 /// ```
 ///
 /// It uses `ChipState` of `crates/uart_chip/specs/Chip.antt`.
-#[doc(alias("clear_status", "passed"))]
+///
+/// <span id="when_due"></span>
+///
+/// # `when_due`
+///
+/// A chip whose reception timeout is due, and whose THR-empty interrupt is pending, or is not.
+///
+/// ```text
+/// abbrev pub when_due : (is_thr_pending : Bool) → ChipState → ChipState
+/// when_due is_thr_pending c = with_thr_pending is_thr_pending (expire c)
+/// ```
+///
+/// It uses [`with_thr_pending`](uart_chip::proved::chip#with_thr_pending), [`expire`](crate::proved::held#expire); `ChipState` of `crates/uart_chip/specs/Chip.antt`.
+#[doc(alias("clear_status", "passed", "when_due"))]
 pub mod quick {}

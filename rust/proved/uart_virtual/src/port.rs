@@ -209,14 +209,17 @@ fn rest_of<const FIFO: usize>(chip: &LiveChipWith<FIFO>) -> u8 {
     }
 }
 
-// Returns how many more accesses of DATA the last signal covers.
+// Returns how many more falls of the line the last signal covers.
 //
 // A burst of 16 bytes takes the line down 16 times. The first of them is signalled, which calls the
 // guest's handler again once it is done; 15 signals more would say nothing. But a guest that does
 // not look may have returned from its handler before any of them. So a signal covers others only
 // after a look, and no more than a FIFO has room for: `rest` says how many that are, with the one
-// access in which the signal is given.
-fn spare_after(kind: Kind, signal: bool, rest: u8, told: Told) -> u8 {
+// access in which the signal is given. An access in which the line stays up uses none of them: so
+// what another processor prints meanwhile takes nothing from a handler that reads.
+#[inline(always)]
+fn spare_after(kind: Kind, was_up: bool, signal: bool, rest: u8, told: Told) -> u8 {
+    let fell = told.line && !was_up;
     if kind.looks {
         0
     } else if signal {
@@ -225,7 +228,7 @@ fn spare_after(kind: Kind, signal: bool, rest: u8, told: Told) -> u8 {
         } else {
             0
         }
-    } else if kind.moves_data {
+    } else if kind.moves_data && fell {
         told.spare.saturating_sub(1)
     } else {
         told.spare
@@ -294,7 +297,7 @@ pub fn tell(seen: Seen, was_up: bool, told: &mut Told, kind: Kind) -> Todo {
         line: level,
         has_room,
         has_looked: kind.looks || (told.has_looked && !signal),
-        spare: spare_after(kind, signal, seen.rest, *told),
+        spare: spare_after(kind, was_up, signal, seen.rest, *told),
     };
     todo
 }
@@ -405,24 +408,28 @@ fn read<const FIFO: usize>(chip: &mut LiveChipWith<FIFO>, offset: u8, told: &mut
     }
 }
 
-// Returns whether a fall of the line within a call makes no difference to what is told.
-fn ignores_falls(told: Told) -> bool {
-    !told.line || told.spare != 0
+// Returns whether something else than an empty THR keeps the line up, if it was up.
+#[inline(always)]
+fn is_kept_up<const FIFO: usize>(chip: &LiveChipWith<FIFO>, told: Told) -> bool {
+    told.line && chip.interrupts_when_due(false)
 }
 
-// Returns whether a write can be made by `send`: it is a byte that meets an idle transmitter, and
-// what is told does not depend on the level of the line in between.
-fn is_fast<const FIFO: usize>(chip: &LiveChipWith<FIFO>, offset: u8, told: Told) -> bool {
+// Returns whether a write can be made by `send`: it is a byte that meets an idle transmitter.
+fn is_fast<const FIFO: usize>(chip: &LiveChipWith<FIFO>, offset: u8) -> bool {
     let sends = chip.sends_at_once();
-    offset as usize == offsets::DATA && (sends && (!told.line || told.spare != 0))
+    offset as usize == offsets::DATA && sends
 }
 
-// Does the same as `write_slowly` for a byte that can be sent at once.
+// Does the same as `write_slowly` for a byte that can be sent at once. The byte ends the interrupt
+// of an empty THR, and brings it again. So the line stays up if it has another cause.
 #[inline]
 fn send<const FIFO: usize>(chip: &mut LiveChipWith<FIFO>, value: u8, told: &mut Told) -> Todo {
     let kind = kind_of_write(offsets::DATA as u8);
+    let was_up = chip.interrupts_when_due(false);
+    let is_on = chip.has_output_interrupt_on();
+    let level = was_up | is_on;
     chip.send_at_once(value);
-    decide(chip, false, told, kind)
+    decide_at(chip, level, was_up, told, kind)
 }
 
 // Writes a register, and raises a THR-empty interrupt if this is a write of FCR that discards bytes
@@ -461,7 +468,7 @@ fn write<const FIFO: usize>(
     value: u8,
     told: &mut Told,
 ) -> Todo {
-    if is_fast(chip, offset, *told) {
+    if is_fast(chip, offset) {
         send(chip, value, told)
     } else {
         write_slowly(chip, offset, value, told)
@@ -655,18 +662,17 @@ impl<const FIFO: usize> VirtualPortWith<FIFO> {
     #[inline]
     fn reads_polled(&self) -> bool {
         let is_polled = !self.chip.has_interrupts_on();
-        is_polled && (self.told.has_room && self.told.spare == 0)
+        is_polled && self.told.has_room
     }
 
-    /// Reads DATA for a guest that polls: if no interrupt is enabled, no signal covers others, and
-    /// the monitor knows of room for input. Then it has nothing to do. Otherwise returns `None`,
-    /// and nothing changes.
+    /// Reads DATA for a guest that polls: if no interrupt is enabled, and the monitor knows of room
+    /// for input. Then it has nothing to do. Otherwise returns `None`, and nothing changes.
     ///
     /// The value and the effect are those of [`VirtualPortWith::read`].
     ///
     /// # Proved
     ///
-    /// - *polled*: returns `Some` exactly if [`reads_polled`](crate::proved::port#reads_polled) `self.old`: after a read of DATA the monitor has nothing to do: no interrupt is enabled, the monitor knows of room, and no signal covers others.
+    /// - *polled*: returns `Some` exactly if [`reads_polled`](crate::proved::port#reads_polled) `self.old`: after a read of DATA the monitor has nothing to do: no interrupt is enabled, and the monitor knows of room.
     /// - *value*: for each `value`: if it returns `Some value`: `value` is [`answer`](uart_chip::proved::chip#answer) `offsets.DATA self.old.chip`: what a read of the register returns.
     /// - *read*: if it returns `Some`: `self` becomes [`after`](crate::proved::port#after) `(Read offsets.DATA) self.old`: the port after this call: the access or what the host brings, and then the time that passes in each call.
     /// - *todo*: if it returns `Some`: `port.todo (Read offsets.DATA) self.old ≡ port.nothing_new self.old`.
@@ -745,12 +751,11 @@ impl<const FIFO: usize> VirtualPortWith<FIFO> {
         Some(Answer { value, todo })
     }
 
-    // Returns whether a byte that the guest writes to DATA would be alone on the output at once,
-    // and a fall of the line makes no difference.
+    // Returns whether a byte that the guest writes to DATA would be alone on the output at once.
     #[inline]
     fn passes(&self) -> bool {
         let is_empty = self.chip.wire_room() == WIRE_ROOM;
-        ignores_falls(self.told) && (is_empty && self.chip.sends_at_once())
+        is_empty && self.chip.sends_at_once()
     }
 
     /// Returns the byte that goes out if the guest writes this value to DATA, if the host can take
@@ -789,7 +794,7 @@ impl<const FIFO: usize> VirtualPortWith<FIFO> {
     ///
     /// # Proved
     ///
-    /// - *passes*: returns `Some` exactly if [`passes`](crate::proved::port#passes) `self.old`: the host can take a byte that the guest writes to DATA before it is on the output: it would be alone there at once, and a fall of the line within the call makes no difference.
+    /// - *passes*: returns `Some` exactly if [`passes`](crate::proved::port#passes) `self.old`: the host can take a byte that the guest writes to DATA before it is on the output: it would be alone there at once.
     /// - *after*: for each `value`: if it returns `Some`: `self` becomes [`after`](crate::proved::port#after) `(TakeOutput 1) (port.after (Write offsets.DATA value) self.old)`: the port after this call: the access or what the host brings, and then the time that passes in each call.
     /// - *todo*: for each `value` and `todo`: if it returns `Some todo`: `todo` is `record (port.todo (Write offsets.DATA value) self.old) { ready = 0 }`.
     ///   - [`todo`](crate::proved::port#todo): what the monitor has to do after this call: signal the interrupt, take output, bring input.
@@ -815,18 +820,20 @@ impl<const FIFO: usize> VirtualPortWith<FIFO> {
         if !self.passes() {
             return None;
         }
+        let was_up = is_kept_up(&self.chip, self.told);
+        let is_on = self.chip.has_output_interrupt_on();
         let _passed = self.chip.pass_wire();
         // There is as much room for input as there was, and as many characters wait. So what the
         // monitor knows of that stays, and the chip need not be asked.
         let seen = Seen {
-            level: self.chip.is_interrupting(),
+            level: was_up | is_on,
             has_room: self.told.has_room,
             is_empty: false,
             rest: rest_of(&self.chip),
             ready: 0,
         };
         let kind = kind_of_write(offsets::DATA as u8);
-        Some(tell(seen, false, &mut self.told, kind))
+        Some(tell(seen, was_up, &mut self.told, kind))
     }
 
     /// Writes a value to the register at this offset for the guest. Returns what the monitor has to

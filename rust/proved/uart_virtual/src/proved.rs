@@ -72,7 +72,7 @@
 ///       line = seen.level;
 ///       has_room = room_after kind seen told;
 ///       has_looked = kind.looks || (told.has_looked && not signal);
-///       spare = spare_after kind signal seen.rest told;
+///       spare = spare_after kind was_up signal seen.rest told;
 ///     }
 /// ```
 ///
@@ -246,11 +246,11 @@
 ///
 /// # `reads_polled`
 ///
-/// After a read of DATA the monitor has nothing to do: no interrupt is enabled, the monitor knows of room, and no signal covers others.
+/// After a read of DATA the monitor has nothing to do: no interrupt is enabled, and the monitor knows of room.
 ///
 /// ```text
 /// abbrev pub reads_polled : PortState → Bool
-/// reads_polled p = is_polled p && (p.told.has_room && (p.told.spare == 0))
+/// reads_polled p = is_polled p && p.told.has_room
 /// ```
 ///
 /// It uses `PortState`, `is_polled` of this file.
@@ -299,14 +299,14 @@
 ///
 /// # `passes`
 ///
-/// The host can take a byte that the guest writes to DATA before it is on the output: it would be alone there at once, and a fall of the line within the call makes no difference.
+/// The host can take a byte that the guest writes to DATA before it is on the output: it would be alone there at once.
 ///
 /// ```text
 /// abbrev pub passes : PortState → Bool
-/// passes p = ignores_falls p.told && ((length p.chip.transmitter.wire == 0) && sends_at_once p.chip)
+/// passes p = (length p.chip.transmitter.wire == 0) && sends_at_once p.chip
 /// ```
 ///
-/// It uses [`sends_at_once`](uart_chip::proved::sending#sends_at_once); `PortState`, `ignores_falls` of this file.
+/// It uses [`sends_at_once`](uart_chip::proved::sending#sends_at_once); `PortState` of this file.
 ///
 /// <span id="passing"></span>
 ///

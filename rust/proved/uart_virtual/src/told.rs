@@ -29,7 +29,7 @@ pub struct Told {
     pub has_room: bool,
     /// The guest has read ISR since the last signal.
     pub has_looked: bool,
-    /// How many more accesses of DATA the last signal covers.
+    /// How many more falls of the line the last signal covers.
     pub spare: u8,
 }
 

@@ -200,6 +200,31 @@ fn a_signal_covers_one_fifo() {
     assert!(port.write(DATA, 0x41).signal);
 }
 
+// Another processor prints while a handler reads 16 characters: it writes so many bytes between two
+// reads. The line stays up in each write, so the second signal covers the rest of the FIFO.
+#[test]
+fn what_another_processor_prints_takes_nothing_from_a_handler() {
+    for (ier, signals) in [(0x01, 2), (0x03, 1)] {
+        for bytes in 0..=15 {
+            let mut port = VirtualPort::new(Chip::Uart16550A);
+            port.write(FCR, 0x87);
+            port.write(IER, ier);
+            let mut todos = vec![port.receive(b"0123456789abcdef").todo];
+            assert_eq!(port.read(ISR).value, 0xc4);
+            todos.push(port.read(DATA).todo);
+            for _ in 1..16 {
+                for _ in 0..bytes {
+                    todos.push(port.write(DATA, 0x41));
+                    port.take_output(1);
+                }
+                todos.push(port.read(DATA).todo);
+            }
+            let count = todos.iter().filter(|todo| todo.signal).count();
+            assert_eq!(count, signals, "IER {ier:#04x}, {bytes} bytes");
+        }
+    }
+}
+
 // What comes back in loopback withdraws a timeout that was due, and that is signalled though the
 // line is up before and after.
 #[test]

@@ -1,4 +1,4 @@
-use Rattle.uart_virtual.proofs.Stays.{line_stays, dip_signalled}
+use Rattle.uart_virtual.proofs.Stays.{line_stays, dip_signalled, a_fall_uses_one_up}
 use Rattle.uart_virtual.proofs.Tells.{rise_signalled, signals_up, a_signal_covers, no_look_covers_nothing, full_signalled}
 use Rattle.uart_virtual.proofs.Tells.{no_other_signals}
 use Rattle.uart_virtual.proofs.laws.rises_are_signalled.Goals as goal
@@ -11,6 +11,9 @@ returns-clause-dip c = dip_signalled
 
 pub returns-clause-covers : goal.returns-clause-covers
 returns-clause-covers c = a_signal_covers
+
+pub returns-clause-used : goal.returns-clause-used
+returns-clause-used c = a_fall_uses_one_up
 
 pub returns-clause-blind : goal.returns-clause-blind
 returns-clause-blind c = no_look_covers_nothing
