@@ -20,9 +20,9 @@ pub use uart_live::{
     Character, Chip, ChipData, ChipError, InputError, Latches, LiveChip, LiveChipWith, ModemData,
     Origin, ReceiverData, RestoreError, Shifting, TransmitterData, WIRE_ROOM,
 };
-#[doc(inline)]
-pub use uart_spec::FifoSize;
 pub use uart_spec::registers;
+#[doc(inline)]
+pub use uart_spec::{FIFO_SIZE, FifoSize};
 #[doc(inline)]
 pub use uart_virtual::{
     Answer, Clock, Received, Restored, Todo, VirtualPort, VirtualPortWith, settle,

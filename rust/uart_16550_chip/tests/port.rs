@@ -309,7 +309,7 @@ impl Plain {
             }
             Kind {
                 moves_data: true, ..
-            } => self.spare.saturating_sub(1),
+            } if self.is_line_high && was_low => self.spare.saturating_sub(1),
             _ => self.spare,
         };
         self.has_looked = kind.looks || self.has_looked && !signal;

@@ -1,9 +1,12 @@
 //! Chips and ports whose FIFOs hold more than 16 characters.
 
+use std::cell::Cell;
+use std::convert::Infallible;
 use uart_16550_chip::registers::{FCR, IER, LSR, offsets};
+use uart_16550_chip::serial::Error;
 use uart_16550_chip::{
-    Chip, ChipError, FifoSize, LiveChip, LiveChipWith, VirtualPort, VirtualPortWith,
-    WIRE_ROOM, settle,
+    Chip, ChipError, FifoSize, LiveChip, LiveChipWith, NoEvents, Serial, Trigger, VirtualPort,
+    VirtualPortWith, WIRE_ROOM, settle,
 };
 
 const DATA: u8 = offsets::DATA as u8;
@@ -165,7 +168,10 @@ fn a_port_of_16_is_the_same_by_each_name() {
         assert_eq!(one.take_output(3), other.take_output(3));
     }
     let mut chip: LiveChip = LiveChipWith::new(Chip::Uart16450, 1, 64).unwrap();
-    assert_eq!((settle(&mut chip), chip.fifo_size()), (1, FifoSize::Sixteen));
+    assert_eq!(
+        (settle(&mut chip), chip.fifo_size()),
+        (1, FifoSize::Sixteen)
+    );
 }
 
 #[test]
@@ -180,4 +186,59 @@ fn each_can_be_shown() {
     let port = VirtualPortWith::<64>::try_new(Chip::Uart16550A).unwrap();
     assert!(format!("{port:?}").starts_with("VirtualPort { level: false"));
     assert!(format!("{:?}", port.chip()).contains("fifo_size: SixtyFour"));
+}
+
+/// A line that counts its signals.
+#[derive(Default)]
+struct Line(Cell<u32>);
+
+impl Trigger for Line {
+    type E = Infallible;
+
+    fn trigger(&self) -> Result<(), Infallible> {
+        self.0.set(self.0.get() + 1);
+        Ok(())
+    }
+}
+
+type Device<const FIFO: usize> = Serial<Line, NoEvents, Vec<u8>, FIFO>;
+
+// A FIFO of input is one signal for a handler that drains, and what a guest writes at one interrupt one more, whatever the size.
+fn is_a_device<const FIFO: usize>() {
+    let mut serial: Device<FIFO> =
+        Serial::try_with_events(Line::default(), NoEvents, Vec::new()).unwrap();
+    assert_eq!((serial.read(3), serial.read(4)), (0x03, 0x08));
+    assert_eq!((serial.settings().divisor, serial.fifo_capacity()), (12, 1));
+    serial.set_handler_drains(true).unwrap();
+    serial.write(FCR_OFFSET, 0x81).unwrap();
+    serial.write(IER_OFFSET, 0x01).unwrap();
+    assert_eq!(serial.fifo_capacity(), FIFO);
+    let input: Vec<u8> = (0..FIFO).map(|byte| byte as u8).collect();
+    assert_eq!(serial.enqueue_raw_bytes(&input).unwrap(), FIFO);
+    assert!(matches!(
+        serial.enqueue_raw_bytes(b"x"),
+        Err(Error::FullFifo)
+    ));
+    let mut read = Vec::new();
+    while serial.read(ISR_OFFSET) & 0x01 == 0 {
+        read.push(serial.read(DATA));
+    }
+    assert_eq!((&read, serial.interrupt_evt().0.get()), (&input, 1));
+
+    serial.write(IER_OFFSET, 0x02).unwrap();
+    assert_eq!(serial.read(ISR_OFFSET), 0xc2);
+    serial.write_bytes(DATA, &input).unwrap();
+    assert_eq!((serial.interrupt_evt().0.get(), serial.overflows()), (3, 0));
+    assert_eq!(serial.into_parts().2, input);
+}
+
+#[test]
+fn a_device_has_fifos_of_each_size() {
+    is_a_device::<16>();
+    is_a_device::<32>();
+    is_a_device::<64>();
+    is_a_device::<128>();
+    is_a_device::<256>();
+    let none = Serial::<_, _, _, 48>::try_with_events(Line::default(), NoEvents, Vec::new());
+    assert_eq!(none.err(), Some(ChipError::BadFifo));
 }

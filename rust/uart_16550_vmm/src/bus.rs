@@ -2,7 +2,8 @@
 
 use std::fmt;
 use std::num::NonZeroUsize;
-use uart_16550_chip::registers::{LCR, offsets};
+use uart_16550_chip::FIFO_SIZE;
+use uart_16550_chip::registers::offsets;
 use uart_16550_chip::serial::{Error, Output, Serial, SerialEvents, Trigger};
 
 /// Why an access of the guest failed.
@@ -38,13 +39,13 @@ enum Place {
 /// assert_eq!(com1.serial().writer(), b"Hello");
 /// assert_eq!(lsr, [0x60]);
 /// ```
-pub struct BusSerial<T: Trigger, EV: SerialEvents, W: Output> {
-    serial: Serial<T, EV, W>,
+pub struct BusSerial<T: Trigger, EV: SerialEvents, W: Output, const FIFO: usize = FIFO_SIZE> {
+    serial: Serial<T, EV, W, FIFO>,
     place: Place,
     failure: Option<Failure<T, W>>,
 }
 
-impl<T: Trigger, EV: SerialEvents, W: Output> BusSerial<T, EV, W> {
+impl<T: Trigger, EV: SerialEvents, W: Output, const FIFO: usize> BusSerial<T, EV, W, FIFO> {
     /// Returns a device whose eight registers are at eight I/O ports, as COM1 at 3F8.
     ///
     /// A guest may make many accesses of one port by one instruction, as `rep outsb`, and may access two or four ports at once, as `outw`.
@@ -52,7 +53,7 @@ impl<T: Trigger, EV: SerialEvents, W: Output> BusSerial<T, EV, W> {
     /// [`write_sized`](Self::write_sized). A bus that has only the bytes cannot tell. So [`read`](Self::read) and
     /// [`write`](Self::write) take what guests do: two or four bytes are an access of as many ports, as when `outw` sets a divisor, unless
     /// they are at DATA. All others are of the one port.
-    pub fn at_ports(serial: Serial<T, EV, W>) -> Self {
+    pub fn at_ports(serial: Serial<T, EV, W, FIFO>) -> Self {
         BusSerial {
             serial,
             place: Place::Ports,
@@ -64,7 +65,7 @@ impl<T: Trigger, EV: SerialEvents, W: Output> BusSerial<T, EV, W> {
     ///
     /// An access is to one register, however many bytes it has: the value is in the first of them, and the others read as 0. This is
     /// right for little-endian guests. An access between two registers reads as 0 and writes nothing.
-    pub fn in_memory(serial: Serial<T, EV, W>, shift: u8) -> Self {
+    pub fn in_memory(serial: Serial<T, EV, W, FIFO>, shift: u8) -> Self {
         BusSerial {
             serial,
             place: Place::Memory { shift },
@@ -188,7 +189,7 @@ impl<T: Trigger, EV: SerialEvents, W: Output> BusSerial<T, EV, W> {
 
     // Whether the divisor latch has the place of DATA.
     fn has_latch(&self) -> bool {
-        self.serial.state().chip.latches.lcr.contains(LCR::DLAB)
+        self.serial.is_dlab_set()
     }
 
     fn read_register(&mut self, register: Option<u64>) -> u8 {
@@ -218,22 +219,22 @@ impl<T: Trigger, EV: SerialEvents, W: Output> BusSerial<T, EV, W> {
     }
 
     /// Returns the device.
-    pub fn serial(&self) -> &Serial<T, EV, W> {
+    pub fn serial(&self) -> &Serial<T, EV, W, FIFO> {
         &self.serial
     }
 
     /// Returns the device, to be given input, and to be asked for its output.
-    pub fn serial_mut(&mut self) -> &mut Serial<T, EV, W> {
+    pub fn serial_mut(&mut self) -> &mut Serial<T, EV, W, FIFO> {
         &mut self.serial
     }
 
     /// Returns the device that is on the bus.
-    pub fn into_serial(self) -> Serial<T, EV, W> {
+    pub fn into_serial(self) -> Serial<T, EV, W, FIFO> {
         self.serial
     }
 }
 
-impl<T, EV, W> fmt::Debug for BusSerial<T, EV, W>
+impl<T, EV, W, const FIFO: usize> fmt::Debug for BusSerial<T, EV, W, FIFO>
 where
     T: Trigger + fmt::Debug,
     EV: SerialEvents + fmt::Debug,
@@ -261,7 +262,9 @@ mod vm_device {
     use ::vm_device::bus::{MmioAddress, MmioAddressOffset, PioAddress, PioAddressOffset};
     use ::vm_device::{MutDeviceMmio, MutDevicePio};
 
-    impl<T: Trigger, EV: SerialEvents, W: Output> MutDevicePio for BusSerial<T, EV, W> {
+    impl<T: Trigger, EV: SerialEvents, W: Output, const FIFO: usize> MutDevicePio
+        for BusSerial<T, EV, W, FIFO>
+    {
         fn pio_read(&mut self, _base: PioAddress, offset: PioAddressOffset, data: &mut [u8]) {
             self.read(offset.into(), data);
         }
@@ -271,7 +274,9 @@ mod vm_device {
         }
     }
 
-    impl<T: Trigger, EV: SerialEvents, W: Output> MutDeviceMmio for BusSerial<T, EV, W> {
+    impl<T: Trigger, EV: SerialEvents, W: Output, const FIFO: usize> MutDeviceMmio
+        for BusSerial<T, EV, W, FIFO>
+    {
         fn mmio_read(&mut self, _base: MmioAddress, offset: MmioAddressOffset, data: &mut [u8]) {
             self.read(offset, data);
         }

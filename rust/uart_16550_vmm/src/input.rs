@@ -3,8 +3,6 @@
 use std::io::{Error, ErrorKind, Read};
 use uart_16550_chip::serial::{Output, Serial, SerialEvents, Trigger};
 
-/// For how many characters a device has room at most.
-const MOST: usize = 16;
 /// How often a read that a signal interrupted is tried.
 const TRIES: usize = 16;
 
@@ -55,16 +53,16 @@ impl<R: Read> Input<R> {
     /// # Errors
     ///
     /// If the source cannot be read. What was read before is received.
-    pub fn offer<T: Trigger, EV: SerialEvents, W: Output>(
+    pub fn offer<T: Trigger, EV: SerialEvents, W: Output, const FIFO: usize>(
         &mut self,
-        serial: &mut Serial<T, EV, W>,
+        serial: &mut Serial<T, EV, W, FIFO>,
     ) -> Result<usize, Error> {
-        let mut bytes = [0; MOST];
+        let mut bytes = [0; FIFO];
         let mut received = 0;
         // A source may have less than there is room for, and more behind that. The guest reads nothing meanwhile, so each round takes at
-        // least one of 16 places.
-        for _ in 0..MOST {
-            let room = serial.fifo_capacity().min(MOST);
+        // least one of the places of a FIFO.
+        for _ in 0..FIFO {
+            let room = serial.fifo_capacity().min(FIFO);
             if room == 0 {
                 break;
             }

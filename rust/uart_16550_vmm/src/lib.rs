@@ -6,6 +6,7 @@ mod bus;
 mod counters;
 mod events;
 mod input;
+mod limited;
 #[cfg(target_os = "linux")]
 mod linux;
 mod lossy;
@@ -16,6 +17,7 @@ pub use bus::BusSerial;
 pub use counters::{Counters, Counts};
 pub use events::Both;
 pub use input::Input;
+pub use limited::Limited;
 #[cfg(target_os = "linux")]
 pub use linux::{Epoll, EventFd, Room, Timer};
 pub use lossy::Lossy;

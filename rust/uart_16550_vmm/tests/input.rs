@@ -5,7 +5,7 @@ use std::convert::Infallible;
 use std::io;
 use std::io::{ErrorKind, Read};
 use uart_16550_chip::{NoEvents, Serial, SerialState, Trigger};
-use uart_16550_vmm::{Input, TriggerBy};
+use uart_16550_vmm::{BusSerial, Input, TriggerBy};
 
 type Device<T> = Serial<T, NoEvents, Vec<u8>>;
 
@@ -39,6 +39,22 @@ impl Read for Source {
         room[..bytes.len()].copy_from_slice(&bytes);
         Ok(bytes.len())
     }
+}
+
+/// A device takes as much at once as its FIFO holds, and so does its place on a bus.
+#[test]
+fn larger_fifos_take_more_at_once() {
+    let serial = Serial::<_, _, _, 64>::try_with_events(Line, NoEvents, Vec::new()).unwrap();
+    let mut com1 = BusSerial::at_ports(serial);
+    com1.write(2, &[0x01]);
+    let mut input = Input::new(&[b'x'; 100][..]);
+    assert_eq!(input.offer(com1.serial_mut()).unwrap(), 64);
+    let mut value = [0];
+    com1.read(0, &mut value);
+    assert_eq!(
+        (value, input.offer(com1.serial_mut()).unwrap()),
+        ([b'x'], 1)
+    );
 }
 
 #[test]

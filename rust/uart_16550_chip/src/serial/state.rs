@@ -1,6 +1,6 @@
 //! The state of a device as plain data, and back.
 
-use super::port_after_firmware;
+use super::after_firmware;
 use crate::{ArrayVec, Chip, ChipData, LiveChip, RestoreError, Restored, VirtualPort, WIRE_ROOM};
 use core::error;
 use core::fmt;
@@ -70,7 +70,7 @@ impl SerialState {
 /// The state of a device that [`Serial::new`](super::Serial::new) returns.
 impl Default for SerialState {
     fn default() -> Self {
-        Self::of_port(&port_after_firmware())
+        Self::of_port(&after_firmware(VirtualPort::new(Chip::Uart16550A)))
     }
 }
 
