@@ -6,7 +6,7 @@
 use core::fmt::{self, Write as _};
 use core::num::{NonZeroU64, NonZeroUsize};
 use uart_16550::Flags;
-use uart_16550::discovery::{self, OptionError, PciError, PortDescription, TableError, TreeError, UnknownClockError};
+use uart_16550::discovery::{self, OptionError, PciError, PortDescription, TableError, TreeError, TreePort, UnknownClockError};
 use uart_16550::native::backend::{
     self, Backend, ByteAccess, ByteOrder, InvalidLayoutError, MmioBackend, PioBackend, PortAccess,
     DesignWare, DesignWareFault, DesignWareMemory, DesignWareRegisters, RegisterLayout, RegisterWidth, VolatileMemory, WideMemory,
@@ -23,7 +23,7 @@ use uart_16550::emergency::EmergencyConsole;
 use uart_16550::ring::{
     ErrorNotes, Global, Handled, LinePort, LinePorts, Lowered, Memory, ReceiveMarks, RingError, StuckError, Uart16550Ring, UnnotedError,
 };
-use uart_16550::rs485::{BusyError, Direction, HalfDuplex, NotSendingError, SendError};
+use uart_16550::rs485::{BusyError, Direction, EchoError, HalfDuplex, HalfDuplexRing, NotSendingError, SendError};
 use uart_16550::shared::{CriticalSection, Shared, SharedError, SharedLine, StartError, Unfinished, Wait};
 use uart_16550::spec::registers::{
     DLL, DLM, FCR, FifoTriggerLevel, IER, ISR, InterruptType, LCR, LSR, MCR, MSR, PSD, Parity, SPR,
@@ -250,6 +250,7 @@ calls! {
     half_duplex_new(uart: Uart16550<Device>, direction: Direction) -> Result<HalfDuplex<Device>, (Uart16550<Device>, BusyError)> { HalfDuplex::new(uart, direction) }
     half_duplex_start_sending(bus: &mut HalfDuplex<Device>) { bus.start_sending() }
     half_duplex_try_finish(bus: &mut HalfDuplex<Device>) -> Result<(), BusyError> { bus.try_finish() }
+    half_duplex_give_up(bus: HalfDuplex<Device>) -> (Uart16550<Device>, LSR) { bus.give_up() }
     half_duplex_is_idle(bus: &mut HalfDuplex<Device>) -> bool { bus.is_idle() }
     half_duplex_flush(bus: &mut HalfDuplex<Device>) -> Result<(), StalledError> { bus.flush() }
     half_duplex_is_sending(bus: &HalfDuplex<Device>) -> bool { bus.is_sending() }
@@ -260,7 +261,23 @@ calls! {
     half_duplex_send_bytes_exact(bus: &mut HalfDuplex<Device>, bytes: &[u8]) -> Result<(), SendError> { bus.send_bytes_exact(bytes) }
     half_duplex_receive_bytes(bus: &mut HalfDuplex<Device>, buffer: &mut [u8]) -> usize { bus.receive_bytes(buffer) }
     half_duplex_receive_with_errors(bus: &mut HalfDuplex<Device>, slots: &mut [Received]) -> usize { bus.receive_with_errors(slots) }
+    half_duplex_ready_to_receive(bus: &mut HalfDuplex<Device>) -> Result<(), ByteReceiveError> { bus.ready_to_receive() }
+    half_duplex_try_receive_byte(bus: &mut HalfDuplex<Device>) -> Result<u8, ByteReceiveError> { bus.try_receive_byte() }
+    half_duplex_try_receive_with_errors(bus: &mut HalfDuplex<Device>) -> Result<Received, ByteReceiveError> { bus.try_receive_with_errors() }
+    half_duplex_receive_bytes_exact(bus: &mut HalfDuplex<Device>, buffer: &mut [u8]) -> Result<(), StalledError> { bus.receive_bytes_exact(buffer) }
+    half_duplex_receive_bytes_while(bus: &mut HalfDuplex<Device>, buffer: &mut [u8]) -> Result<(), StalledError> { bus.receive_bytes_while(buffer, &mut || device_read(8) != 0) }
+    half_duplex_receive_echo(bus: &mut HalfDuplex<Device>, sent: &[u8]) -> Result<(), EchoError> { bus.receive_echo(sent) }
     half_duplex_lsr(bus: &mut HalfDuplex<Device>) -> LSR { bus.lsr() }
+    half_duplex_ring_new(ring: Ring, direction: Direction) -> Result<HalfDuplexRing<Device>, (Ring, BusyError)> { HalfDuplexRing::new(ring, direction) }
+    half_duplex_ring_start_sending(bus: &mut HalfDuplexRing<Device>) { bus.start_sending() }
+    half_duplex_ring_try_finish(bus: &mut HalfDuplexRing<Device>) -> Result<(), BusyError> { bus.try_finish() }
+    half_duplex_ring_queue(bus: &mut HalfDuplexRing<Device>, bytes: &[u8]) -> Result<usize, NotSendingError> { bus.queue(bytes) }
+    half_duplex_ring_handle(bus: &mut HalfDuplexRing<Device>, limit: usize) -> Handled { bus.handle(limit) }
+    half_duplex_ring_take(bus: &mut HalfDuplexRing<Device>, slots: &mut [u8]) -> usize { bus.take(slots) }
+    half_duplex_ring_take_line(bus: &mut HalfDuplexRing<Device>) -> LSR { bus.take_line() }
+    half_duplex_ring_is_sending(bus: &HalfDuplexRing<Device>) -> bool { bus.is_sending() }
+    half_duplex_ring_inner(bus: &HalfDuplexRing<Device>) -> &Ring { bus.inner() }
+    half_duplex_ring_into_inner(bus: HalfDuplexRing<Device>) -> Ring { bus.into_inner() }
     wide_read(backend: &mut WideMemory, offset: u8) -> u8 { backend.read(offset) }
     wide_write(backend: &mut WideMemory, offset: u8, value: u8) { backend.write(offset, value) }
     wide_base(backend: &WideMemory) -> core::ptr::NonNull<u8> { backend.base() }
@@ -330,11 +347,13 @@ calls! {
     config_is_computable(config: &Config) -> bool { config.is_computable() }
     read_spcr(table: &[u8]) -> Result<PortDescription, TableError> { discovery::read_spcr(table) }
     read_dbg2(table: &[u8]) -> Result<PortDescription, TableError> { discovery::read_dbg2(table) }
-    read_earlycon(text: &[u8]) -> Result<PortDescription, OptionError> { discovery::read_earlycon(text) }
-    read_console(text: &[u8]) -> Result<PortDescription, OptionError> { discovery::read_console(text) }
+    read_earlycon(text: &[u8], native: ByteOrder) -> Result<PortDescription, OptionError> { discovery::read_earlycon(text, native) }
+    read_console(text: &[u8], native: ByteOrder) -> Result<PortDescription, OptionError> { discovery::read_console(text, native) }
     read_pci(header: &[u8], port: u8) -> Result<PortDescription, PciError> { discovery::read_pci(header, port) }
     read_device_tree(blob: &[u8], native: ByteOrder) -> Result<PortDescription, TreeError> { discovery::read_device_tree(blob, native) }
     read_tree_node(blob: &[u8], path: &[u8], native: ByteOrder) -> Result<PortDescription, TreeError> { discovery::read_tree_node(blob, path, native) }
+    read_tree_port(blob: &[u8], index: usize, native: ByteOrder) -> Result<Option<TreePort>, TreeError> { discovery::read_tree_port(blob, index, native) }
+    tree_ports(blob: &[u8], native: ByteOrder) -> usize { discovery::tree_ports(blob, native).count() }
     config_of(port: &PortDescription) -> Result<Config, UnknownClockError> { discovery::config_of(port) }
     keep_settings(uart: &mut Uart, port: &mut PortDescription) -> Result<(), AttachError> { discovery::keep_settings(uart, port) }
     config_character_clocks(config: &Config) -> Result<u64, InvalidDivisorError> { config.character_clocks() }
@@ -443,6 +462,7 @@ texts! {
     text_of_busy: BusyError;
     text_of_not_sending: NotSendingError;
     text_of_at_bus: SendError;
+    text_of_echo: EchoError;
     text_of_ring: RingError;
 }
 

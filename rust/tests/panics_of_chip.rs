@@ -72,6 +72,8 @@ calls! {
     chip_arrive_in_room(chip: &mut LiveChip, byte: u8) -> bool { chip.arrive_in_room(byte) }
     chip_has_interrupts_on(chip: &LiveChip) -> bool { chip.has_interrupts_on() }
     chip_has_input_interrupt_on(chip: &LiveChip) -> bool { chip.has_input_interrupt_on() }
+    chip_has_output_interrupt_on(chip: &LiveChip) -> bool { chip.has_output_interrupt_on() }
+    chip_interrupts_when_due(chip: &LiveChip, is_thr_pending: bool) -> bool { chip.interrupts_when_due(is_thr_pending) }
     chip_ticks(chip: &mut LiveChip, count: u16) -> usize { chip.ticks(count) }
     chip_arrive(chip: &mut LiveChip, byte: u8, errors: LSR) -> Result<(), InputError> { chip.arrive(byte, errors) }
     chip_arrive_holding_timeout(chip: &mut LiveChip, byte: u8, errors: LSR) -> Result<(), InputError> { chip.arrive_holding_timeout(byte, errors) }
@@ -132,6 +134,8 @@ calls! {
 
     serial_new() -> Console { Serial::new(Device, Device) }
     serial_with_events() -> Console { Serial::with_events(Device, NoEvents, Device) }
+    serial_try_with_events() -> Result<Serial<Device, NoEvents, Device, 64>, ChipError> { Serial::try_with_events(Device, NoEvents, Device) }
+    serial_is_dlab_set(serial: &Console) -> bool { serial.is_dlab_set() }
     serial_from_state(state: &SerialState) -> Result<Console, FromStateError<Device, NoEvents, Device>> { Serial::from_state(state, Device, NoEvents, Device) }
     serial_state(serial: &Console) -> SerialState { serial.state() }
     serial_default_state() -> SerialState { SerialState::default() }

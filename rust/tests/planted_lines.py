@@ -1,9 +1,10 @@
 """Lines that `planted` plants by name, and what it cannot find. Text of a source stands here once, as it is there."""
 
 SHARED = 'rust/uart_16550/src/shared.rs'
-TASKS = 'rust/uart_16550/src/shared/asynchronous.rs'
 BLOCKING = 'rust/uart_16550/src/shared/blocking.rs'
 EXCLUSIVE = 'rust/uart_16550/src/shared/exclusive.rs'
+RINGS = 'rust/uart_16550/src/shared/rings.rs'
+LINE = 'rust/uart_16550/src/shared/line.rs'
 EMERGENCY = 'rust/uart_16550/src/emergency.rs'
 ACCESS = 'rust/uart_16550/src/access.rs'
 PORTS = 'rust/uart_16550/src/access/ports.rs'
@@ -18,6 +19,9 @@ AROUND = 'rust/uart_16550_vmm/src/linux.rs'
 INPUT = 'rust/uart_16550_vmm/src/input.rs'
 LOSSY = 'rust/uart_16550_vmm/src/lossy.rs'
 SUPERIO = 'rust/uart_16550_vmm/src/superio.rs'
+KVM = 'rust/geesetrunk/src/import/kvm.rs'
+QEMU = 'rust/geesetrunk/src/import/qemu.rs'
+STATS = 'rust/geesetrunk/src/stats.rs'
 
 LOAD = '''    barrier();
     // SAFETY: by the promise of the caller.
@@ -36,14 +40,20 @@ NOT_TIMEOUTS = 'if stringify!($event) != "timeout_to_come" { %s }'
 # What is wrong, the file, the text, what stands in its place, and what finds it: the packages' tests, the random machines of a monitor
 # alone, the thread sanitiser, or a look at the assembly for a target that needs barriers.
 NAMED = [
-    ('the second of two due tasks is not woken', SHARED, 'due.transmit.map(|waiter| waiter.waker)', 'due.transmit.filter(|_| due.receive.is_none()).map(|waiter| waiter.waker)', 'tests'),
-    ('what was done before is not seen in the next call', EXCLUSIVE, 'Ordering::Acquire', 'Ordering::Relaxed', 'races'),
-    ('what is done in a call is not seen after it', EXCLUSIVE, 'Ordering::Release', 'Ordering::Relaxed', 'races'),
-    ('the sign is cleared before the call', EXCLUSIVE, 'let _in_use = InUse(', 'let _ = InUse(', 'tests'),
-    ('a task whose place is taken is forgotten', TASKS, '            other.waker.wake();\n', '            drop(other);\n', 'tests'),
-    ('a task that is polled again wakes itself', TASKS, '.filter(|other| !other.waker.will_wake(context.waker()))', '', 'tests'),
-    ('a flush does not wait for the chip', SHARED, 'ring.transmit_len() == 0 && ring.inner_mut().is_idle()', 'ring.transmit_len() == 0', 'tests'),
-    ('a flush of a task looks at the chip once', TASKS, 'for _look in 0..limit.get() {', 'for _look in 0..limit.get().min(1) {', 'tests'),
+    ('the second of two due tasks is not woken', RINGS, 'if let Some(waiter) = due.transmit {', 'if let Some(waiter) = due.transmit.filter(|_| self.receive.is_none()) {', 'tests'),
+    ('a waker that panics loses the wakes of others', RINGS, 'let _rest = WakesTheRest(self.0);\n            waker.wake();', 'waker.wake();\n            drop(WakesTheRest(self.0));', 'tests'),
+    ('the mark of a refused handler is not served', SHARED, '                entered.value().serve();\n', '', 'tests'),
+    ('the mark of a refused handler is not served at a line', LINE, '                handle_line(entered.value(), MAX_INTERRUPTS, u32::MAX);\n', '', 'tests'),
+    ('a handler leaves no mark', SHARED, 'self.in_turn(true, |port| {', 'self.in_turn(false, |port| {', 'tests'),
+    ('the handler of a line leaves no mark', LINE, 'self.in_turn(true, |places| handle_line(', 'self.in_turn(false, |places| handle_line(', 'tests'),
+    ('nobody is woken by what a mark brought', SHARED, '                turns.add(entered.value().take_due());\n            }', '            }', 'tests'),
+    ('what was done before is not seen in the next call', EXCLUSIVE, 'Ordering::AcqRel', 'Ordering::Release', 'races'),
+    ('what is done in a call is not seen after it', EXCLUSIVE, 'Ordering::AcqRel', 'Ordering::Acquire', 'races'),
+    ('who is refused frees the rings', EXCLUSIVE, '.then(|| Entered(self))', '.then_some(Entered(self))', 'tests'),
+    ('a task whose place is taken is forgotten', RINGS, '            other.waker.wake();\n', '            drop(other);\n', 'tests'),
+    ('a task that is polled again wakes itself', RINGS, '.filter(|other| !other.waker.will_wake(context.waker()))', '', 'tests'),
+    ('a flush does not wait for the chip', RINGS, 'ring.transmit_len() == 0 && ring.inner_mut().is_idle()', 'ring.transmit_len() == 0', 'tests'),
+    ('a flush of a task looks at the chip once', RINGS, 'for _look in 0..limit.get() {', 'for _look in 0..limit.get().min(1) {', 'tests'),
     ('a flush of a thread looks at the chip once', BLOCKING, 'for _look in 0..limit.get() {', 'for _look in 0..limit.get().min(1) {', 'tests'),
     ('after a failed output one byte is taken, and all are told as lost', SERIAL, 'let todo = self.port.take_output(offered);', 'let todo = self.port.take_output(1);', 'tests'),
     ('a failed trigger is not tried again at a read of DATA', SERIAL, 'if !self.is_owed && !self.port.chip().is_dlab_set() {', 'if !self.port.chip().is_dlab_set() {', 'tests'),
@@ -101,14 +111,20 @@ NAMED = [
     ('a break is left set', EMERGENCY, '    if uart.lcr().intersects(NO_TEXT) {', '    if uart.lcr().intersects(LCR::DLAB) {', 'tests'),
     ('a general output is cleared', EMERGENCY, 'MCR::OUT_1.union(MCR::OUT_2_INT_ENABLE)', 'MCR::OUT_2_INT_ENABLE', 'tests'),
     ('interrupts are left enabled', EMERGENCY, '        uart.backend_mut().write(offset_of(offsets::IER), 0);\n', '', 'tests'),
+    ('last words are bursts', EMERGENCY, 'fifo_enabled: false', 'fifo_enabled: true', 'tests'),
     ('a stuck chip is waited for again and again', EMERGENCY, '            NonZeroU64::MIN\n', '            self.patience\n', 'tests'),
     ('after a raw text that nobody got the next one waits as long', EMERGENCY, 'let sent = self.terminal.write_raw_text(text);\n        self.be_patient_if(sent.is_ok());', 'let sent = self.terminal.write_raw_text(text);', 'tests'),
-    ('one byte is nothing to read', BLOCKING, 'self.shared.with(|ring| ring.receive_len() > 0)', 'self.shared.with(|ring| ring.receive_len() > 1)', 'tests'),
+    ('one byte is nothing to read', BLOCKING, 'self.rings.with_rings(|ring| ring.receive_len() > 0)', 'self.rings.with_rings(|ring| ring.receive_len() > 1)', 'tests'),
     ('a source that ended has ended for ever', INPUT, 'self.is_at_end = count == 0;', 'self.is_at_end |= count == 0;', 'tests'),
     ('an output that says it took more is believed', LOSSY, '?.min(bytes.len())', '?', 'tests'),
     ('of two failures the first is kept', BUS, 'self.failure = Some(failure);', 'self.failure.get_or_insert(failure);', 'tests'),
     ('nobody waits until a terminal can be written', AROUND, 'events: READABLE | WRITABLE | BY_EDGE,', 'events: READABLE | BY_EDGE,', 'tests'),
     ('what is there is news for ever', AROUND, 'events: READABLE | WRITABLE | BY_EDGE,', 'events: READABLE | WRITABLE,', 'tests'),
+    ('the value of an access of QEMU is not cut', QEMU, '{:#04x}", value & 0xff);', '{:#04x}", value);', 'tests'),
+    ('the value of a half word is not cut', KVM, 'if size.0 > 1 {', 'if size.0 > 2 {', 'tests'),
+    ('the value of a byte is cut', KVM, 'if size.0 > 1 {', 'if size.0 > 0 {', 'tests'),
+    ('a string of two accesses is one', KVM, 'if count != 1 {', 'if count > 2 {', 'tests'),
+    ('of two waits as long the last is told', STATS, 'if b.nanoseconds > a.nanoseconds {', 'if b.nanoseconds >= a.nanoseconds {', 'tests'),
     ('a register of 32 bits is read by a load of 8', ACCESS, 'u32::from_le(load(address.cast())) as u8,', 'load(address),', 'barriers'),
     ('a barrier is for memory alone', ACCESS, '"fence iorw, iorw"', '"fence rw, rw"', 'barriers'),
     ('a load without its first barrier', ACCESS, LOAD, LOAD.replace(BARRIER, '', 1), 'barriers'),
@@ -125,16 +141,14 @@ ELSEWHERE = [
     (ACCESS, '// Loads a word of a device.', '// What one access loads or stores'),
     (ACCESS, '#[cfg(all(any(target_arch = "arm", target_arch = "aarch64"), not(miri)))]\nmacro_rules! word', 'word!(u8, "ldrb", "strb");'),
     # The order of the sign: the thread sanitiser sees it, with the lines that have a name above.
-    (EXCLUSIVE, 'if self.is_in_use.swap(', 'return None;'),
-    (EXCLUSIVE, 'self.0.store(', '\n}'),
+    (EXCLUSIVE, 'let changed = self.occupancy.fetch_update(', 'Some(bits_of('),
 ]
 
 # Lines that no test can find: the file, a part of the line, what stands in its place or None for anything, and why.
 KNOWN = [
     (AROUND, 'const CLOSE_ON_EXEC: c_int = if IS_SPARC', '4194305', 'no test runs on SPARC'),
     (AROUND, '    0x4000', '16385', 'no test runs on SPARC'),
-    (INPUT, 'let mut bytes = [0; MOST];', '1', 'bytes are written before they are read'),
-    (INPUT, 'const MOST: usize = 16;', '17', 'no device has room for more than 16'),
+    (INPUT, 'let mut bytes = [0; FIFO];', '1', 'bytes are written before they are read'),
     (AROUND, 'const NANOSECONDS_IN_A_MILLISECOND', None, 'a wait takes longer than it is asked for by more than this'),
     (AROUND, 'Duration::from_nanos(1)', '2', 'a timer starts with any time that is not 0'),
     (AROUND, '                seconds: 0,', '1', 'that a timer runs out again after a second is seen by who waits for a second'),

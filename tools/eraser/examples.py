@@ -100,7 +100,7 @@ PORT = ["use facade::ring::{self, *};", "struct Port { ring: Uart16550Ring<Devic
 LINE = ["use facade::ring::{self, *};", "const MAX_UNFINISHED_ROUNDS: u32 = 100;"]
 
 SPEC = "use facade::native::{*, spec::*};"
-DISCOVERY = "use facade::{discovery::*, native::backend::ByteOrder};"
+DISCOVERY = "use facade::{discovery::*, native::backend::ByteOrder, spec::registers::{Parity, WordLength}};"
 # An example that runs, in which `?` is of an option of a command line.
 FOUND = [f"# {DISCOVERY}"], ["# Ok::<(), OptionError>(())"]
 # The registers of a DesignWare UART in memory in place of a device, and a backend over them.
@@ -128,11 +128,12 @@ def of_rings(path: str | None, text: str) -> Example | None:
 
 
 BUS = "bus: &mut HalfDuplex<Device>"
+RING_BUS = "bus: &mut HalfDuplexRing<Device>"
 
 
 def at_bus(parameters: str) -> Example:
     """An example that is the body of a function with a driver at a bus."""
-    return compiles(parameters, items=["use facade::rs485::*;"])
+    return compiles(parameters, items=["use facade::{ring::{self, MAX_INTERRUPTS}, rs485::*};"])
 
 
 def in_port() -> Example:
@@ -252,6 +253,7 @@ EXAMPLES = {
     "uart_discovery::pci::read_pci": runs(DISCOVERY),
     "uart_discovery::tree::console::read_tree_node": runs(DISCOVERY),
     "uart_discovery::tree::console::read_device_tree": runs(DISCOVERY),
+    "uart_discovery::tree::ports::read_tree_port": runs(DISCOVERY),
     "uart_16550::embedded_io::Uart16550::read": compiles(UART + ", slots: &mut [u8]"),
     "uart_16550::embedded_io::Uart16550::write": (
         INCLUDE + ["# fn example(writer: &mut Uart16550<Device>, bytes: &[u8], mut done: usize) -> Result<(), StalledError> {"],
@@ -298,10 +300,11 @@ EXAMPLES = {
     "uart_design_ware::state::DesignWare::registers_mut": runs(*DESIGN_WARE),
     "uart_rs485::direction::Direction": runs("use facade::rs485::*;"),
     "uart_rs485::direction::Direction::receiving": at_bus(f"{UART}, direction: Direction"),
-    "uart_rs485::bus::HalfDuplex": at_bus(f"{BUS}, wait: fn(u32)"),
+    "uart_rs485::bus::HalfDuplex": at_bus(f"{BUS}, wait: fn(u32), mut answer: [u8; 4], mut deadline: fn() -> bool"),
     "uart_rs485::bus::HalfDuplex::new": at_bus("uart: Uart16550<Device>, direction: Direction"),
     "uart_rs485::bus::HalfDuplex::start_sending": at_bus(BUS),
     "uart_rs485::bus::HalfDuplex::try_finish": at_bus(BUS),
+    "uart_rs485::bus::HalfDuplex::give_up": at_bus("bus: HalfDuplex<Device>"),
     "uart_rs485::bus::HalfDuplex::is_idle": at_bus(BUS),
     "uart_rs485::bus::HalfDuplex::flush": at_bus(BUS),
     "uart_rs485::state::HalfDuplex::is_sending": at_bus(BUS),
@@ -310,9 +313,26 @@ EXAMPLES = {
     "uart_rs485::state::HalfDuplex::into_inner": at_bus("bus: HalfDuplex<Device>"),
     "uart_rs485::transfer::HalfDuplex::send_bytes": at_bus(f"{BUS}, bytes: &[u8]"),
     "uart_rs485::transfer::HalfDuplex::send_bytes_exact": at_bus(BUS),
-    "uart_rs485::transfer::HalfDuplex::receive_bytes": at_bus(f"{BUS}, mut slots: [u8; 4]"),
-    "uart_rs485::transfer::HalfDuplex::receive_with_errors": at_bus(f"{BUS}, mut slots: [Received; 4]"),
+    "uart_rs485::receive::HalfDuplex::ready_to_receive": at_bus(BUS),
+    "uart_rs485::receive::HalfDuplex::try_receive_byte": at_bus(BUS),
+    "uart_rs485::receive::HalfDuplex::receive_bytes": at_bus(f"{BUS}, mut slots: [u8; 4]"),
+    "uart_rs485::receive::HalfDuplex::try_receive_with_errors": at_bus(BUS),
+    "uart_rs485::receive::HalfDuplex::receive_with_errors": at_bus(f"{BUS}, mut slots: [Received; 4]"),
+    "uart_rs485::receive::HalfDuplex::receive_bytes_exact": at_bus(BUS),
+    "uart_rs485::receive::HalfDuplex::receive_echo": at_bus(f"{BUS}, bytes: &[u8]"),
+    "uart_rs485::receive::HalfDuplex::receive_bytes_while": at_bus(f"{BUS}, mut answer: [u8; 4], mut deadline: fn() -> bool"),
     "uart_rs485::transfer::HalfDuplex::lsr": at_bus(BUS),
+    "uart_rs485::rings::HalfDuplexRing": at_bus(RING_BUS),
+    "uart_rs485::rings::HalfDuplexRing::new": at_bus("ring: ring::Uart16550Ring<Device>, direction: Direction"),
+    "uart_rs485::rings::HalfDuplexRing::start_sending": at_bus(RING_BUS),
+    "uart_rs485::rings::HalfDuplexRing::try_finish": at_bus(RING_BUS),
+    "uart_rs485::rings::HalfDuplexRing::queue": at_bus(f"{RING_BUS}, bytes: &[u8]"),
+    "uart_rs485::rings::HalfDuplexRing::handle": at_bus(RING_BUS),
+    "uart_rs485::rings::HalfDuplexRing::take": at_bus(f"{RING_BUS}, mut slots: [u8; 2]"),
+    "uart_rs485::rings::HalfDuplexRing::take_line": at_bus(RING_BUS),
+    "uart_rs485::rings::HalfDuplexRing::is_sending": at_bus(RING_BUS),
+    "uart_rs485::rings::HalfDuplexRing::inner": at_bus(RING_BUS),
+    "uart_rs485::rings::HalfDuplexRing::into_inner": at_bus("bus: HalfDuplexRing<Device>"),
     "uart_ring::ring::noted::Uart16550Ring::copy_with_notes": compiles(
         "ring: &ring::Uart16550Ring<Device>, notes: &ring::ErrorNotes<Device>, mut slots: [Received; 2]",
         items=["use facade::{native::Received, ring};"],

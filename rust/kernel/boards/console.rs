@@ -25,7 +25,7 @@ use core::fmt::{self, Write};
 use core::num::NonZeroU64;
 #[cfg(any(found_by = "tree", found_by = "pci", found_by = "command line"))]
 use uart_16550::discovery;
-#[cfg(found_by = "tree")]
+#[cfg(any(found_by = "tree", found_by = "command line"))]
 use uart_16550::native::backend::ByteOrder;
 #[cfg(not(reached_by = "ports"))]
 use uart_16550::native::backend::RegisterLayout;
@@ -187,7 +187,7 @@ fn place(information: usize, _second: usize) -> Result<Place, Failure> {
         .split(|byte| matches!(byte, 0 | b' '))
         .find_map(|word| word.strip_prefix(b"console="))
         .ok_or(Failure::NoRegisters)?;
-    found(&discovery::read_console(console).map_err(|_| Failure::NoRegisters)?)
+    found(&discovery::read_console(console, ByteOrder::NATIVE).map_err(|_| Failure::NoRegisters)?)
 }
 
 #[cfg(found_by = "pci")]

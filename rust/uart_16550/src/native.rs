@@ -4,11 +4,22 @@
 //! crate should name them by this module: then it also builds if another crate of the same program
 //! turns `compat` on.
 
+/// The driver of a chip, made over a [`backend`] that knows where the registers are.
+///
+/// | the registers are | the backend | the driver |
+/// |---|---|---|
+/// | at I/O ports of x86 | `X86Ports::new(0x3f8)` | [`Uart16550::new_with_backend`] |
+/// | in memory, of one byte each | [`VolatileMemory::from_address`](backend::VolatileMemory::from_address) | the same |
+/// | in memory, of 8, 16 or 32 bits | [`WideMemory::from_address`](backend::WideMemory::from_address) | the same |
+/// | reached by your code | [`PortAccess`](backend::PortAccess), [`ByteAccess`](backend::ByteAccess) | `new_port`, `new_mmio` |
+///
+#[doc(inline)]
+pub use uart_driver::Uart16550;
 pub use uart_driver::{
     BaudRate, ByteReceiveError, ByteSendError, Config, ConfigRegisterDump, DEFAULT_SPIN_LIMIT,
     DriverState, InitError, InvalidAddressError, InvalidDivisorError, LoopbackError,
     NonIntegerBaudRateError, NonIntegerDivisorError, Patience, Received, RemoteReadyToReceiveError,
-    StalledError, Uart16550, Uart16550Tty, Uart16550TtyError, embedded_io,
+    StalledError, Uart16550Tty, Uart16550TtyError, embedded_io,
 };
 pub use uart_spec::{
     AttachError, ConfigurationError, FifoAction, FifoSize, FifoSizeError, FifosOffError, FrameError,
