@@ -188,11 +188,12 @@ def only(source: str, header: str, calls: list[str]) -> tuple[str, str]:
     missing = [one for one in calls if one not in known]
     if missing:
         raise ValueError(f"the header has no {', '.join(missing)}")
-    items = items_of(source)
-    kept = reached(items, calls)
+    items, declared = items_of(source), items_of(header)
+    # A call may be a macro of the header, which needs another one.
+    kept = reached([*items, *(one for one in declared if one.is_directive)], calls)
     of_source = "".join(one.text for one in items if one.is_directive or not one.names or one.names & kept)
     gone = known - kept
-    of_header = "".join(one.text for one in items_of(header) if one.is_directive or not one.names or not one.names <= gone)
+    of_header = "".join(one.text for one in declared if one.is_directive or not one.names or not one.names <= gone)
     return without_empty(of_source), without_empty(of_header)
 
 

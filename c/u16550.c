@@ -11,9 +11,35 @@
  */
 #include "u16550.h"
 
+/* Numbers of the driver. */
+enum {
+    UART_BUSY = 1,
+    UART_BUSY_DETECT = 0x07,
+    UART_CAUSE = 0x0f,
+    UART_FIFO_SIZE = 16,
+    UART_FIRST_PATTERN = 0x42,
+    UART_FLOOD = 257,
+    UART_KEPT = 64,
+    UART_LEAST_LIMIT = 6,
+    UART_MAX_CAPACITY = 4096,
+    UART_MAX_INTERRUPTS = 8,
+    UART_MOST_WAITING = 17,
+    UART_ROUNDS = 4,
+    UART_SECOND_PATTERN = 0x73,
+    UART_SERVING_DATA = 0x04,
+    UART_SERVING_NONE = 0x01,
+    UART_TEST_BYTE = 0x42,
+    UART_TIMEOUT = 0x0c,
+    UART_UNDRIVEN = 0xff,
+    UART_XOFF = 0x13,
+    UART_XON = 0x11
+};
+
 /* Where the registers are. */
 enum {
     UART_DATA = 0,
+    UART_DLL = 0,
+    UART_DLM = 1,
     UART_IER = 1,
     UART_FCR = 2,
     UART_ISR = 2,
@@ -29,136 +55,29 @@ enum {
     U16550_FCR_FIFO_64_ENABLE = 0x20,
     U16550_FCR_FIFO_ENABLE = 0x01,
     U16550_FCR_RX_FIFO_RESET = 0x02,
+    U16550_FCR_RX_FIFO_TRIGGER_LEVEL = 0xc0,
     U16550_FCR_TX_FIFO_RESET = 0x04,
-    U16550_ISR_FIFOS_ENABLED0 = 0x40,
-    U16550_ISR_FIFOS_ENABLED1 = 0x80,
+    U16550_ISR_DMA_RX_END = 0x10,
+    U16550_ISR_FIFOS_ENABLED = 0xc0,
     U16550_ISR_FIFO_64_ENABLED = 0x20,
+    U16550_ISR_IIC_0 = 0x02,
+    U16550_ISR_IIC_1 = 0x04,
+    U16550_ISR_IIC_2 = 0x08,
     U16550_ISR_INTERRUPT_STATUS = 0x01,
     U16550_LCR_DLAB = 0x80,
     U16550_LCR_MORE_STOP_BITS = 0x04,
+    U16550_LCR_PARITY = 0x38,
     U16550_LCR_PARITY2 = 0x20,
-    U16550_LCR_SET_BREAK = 0x40
+    U16550_LCR_SET_BREAK = 0x40,
+    U16550_LCR_WORD_LENGTH = 0x03,
+    U16550_LSR_CHARACTER_ERRORS = 0x1c,
+    U16550_LSR_LINE_ERRORS = 0x1e,
+    U16550_MSR_CHANGES = 0x0f
 };
 
-/* Why a port cannot be taken as it is. */
-enum uart_attach_error {
-    UART_ATTACH_ERROR_NONE = 0,
-    UART_ATTACH_ERROR_DIVISOR_LATCH_OPEN = 1,
-    UART_ATTACH_ERROR_LOOPBACK = 2,
-    UART_ATTACH_ERROR_NO_DIVISOR = 3
-};
-
-struct uart_pair_of_u8 {
-    uint8_t first;
-    uint8_t second;
-};
-
-struct uart_pair_of_u8_or_attach_error {
-    enum uart_attach_error error;
-    struct uart_pair_of_u8 value;
-};
-
-enum uart_configuration_error_kind {
-    UART_CONFIGURATION_ERROR_NONE = 0,
-    UART_CONFIGURATION_ERROR_NO_DIVISOR = 1,
-    UART_CONFIGURATION_ERROR_LINE_CONTROL = 2,
-    UART_CONFIGURATION_ERROR_MODEM_CONTROL = 3,
-    UART_CONFIGURATION_ERROR_INTERRUPTS = 4,
-    UART_CONFIGURATION_ERROR_DIVISOR = 5,
-    UART_CONFIGURATION_ERROR_FIFOS = 6
-};
-
-/*
- * What a chip shows in place of what was written to it. The first difference is told, in the order
- * of the cases.
- */
-struct uart_configuration_error {
-    enum uart_configuration_error_kind kind;
-    uint8_t line_control_expected;
-    uint8_t line_control_shown;
-    uint8_t modem_control_expected;
-    uint8_t modem_control_shown;
-    uint8_t interrupts_expected;
-    uint8_t interrupts_shown;
-    uint16_t divisor_expected;
-    uint16_t divisor_shown;
-    bool fifos_expected;
-    bool fifos_shown;
-};
-
-struct uart_maybe_u16 {
-    bool is_some;
-    uint16_t value;
-};
-
-enum uart_invalid_divisor_error_kind {
-    UART_INVALID_DIVISOR_ERROR_NONE = 0,
-    UART_INVALID_DIVISOR_ERROR_NON_INTEGER = 1,
-    UART_INVALID_DIVISOR_ERROR_OUT_OF_RANGE = 2
-};
-
-struct uart_non_integer_divisor_error {
-    uint32_t frequency;
-    uint32_t baud_rate;
-    struct u16550_core_maybe_u32 prescaler_division_factor;
-};
-
-/* Why there is no divisor for a baud rate. */
-struct uart_invalid_divisor_error {
-    enum uart_invalid_divisor_error_kind kind;
-    struct uart_non_integer_divisor_error non_integer;
-    uint32_t out_of_range;
-};
-
-struct uart_u16_or_invalid_divisor_error {
-    struct uart_invalid_divisor_error error;
-    uint16_t value;
-};
-
-/*
- * Why the remote seems not to be connected, or not to be ready.
- *
- * Many cables never assert DSR, CD or CTS, so sending may still work. Check again after a modem
- * status interrupt.
- */
-enum uart_remote_ready_to_receive_error {
-    UART_REMOTE_READY_TO_RECEIVE_ERROR_NONE = 0,
-    UART_REMOTE_READY_TO_RECEIVE_ERROR_NO_REMOTE_CONNECTED_NO_DSR = 1,
-    UART_REMOTE_READY_TO_RECEIVE_ERROR_NO_REMOTE_CONNECTED_NO_CD = 2,
-    UART_REMOTE_READY_TO_RECEIVE_ERROR_REMOTE_NOT_CLEAR_TO_SEND = 3
-};
-
-enum uart_fifo_size_error_kind {
-    UART_FIFO_SIZE_ERROR_NONE = 0,
-    UART_FIFO_SIZE_ERROR_FIFOS_OFF = 1,
-    UART_FIFO_SIZE_ERROR_TOO_FEW = 2,
-    UART_FIFO_SIZE_ERROR_STALLED = 3
-};
-
-/* Why the size of the FIFOs was not found or not changed. */
-struct uart_fifo_size_error {
-    enum uart_fifo_size_error_kind kind;
-    uint64_t too_few;
-};
-
-struct uart_bool_or_fifo_size_error {
-    struct uart_fifo_size_error error;
-    bool value;
-};
-
-struct uart_fifo_size_or_fifo_size_error {
-    struct uart_fifo_size_error error;
-    uint8_t value; /* an enum u16550_core_fifo_size */
-};
-
-struct uart_maybe_fifo_size {
-    bool is_some;
-    uint8_t value; /* an enum u16550_core_fifo_size */
-};
-
-struct uart_maybe_stalled_error {
-    bool is_error;
-    size_t error;
+struct uart_latch {
+    uint8_t dll;
+    uint8_t dlm;
 };
 
 /*
@@ -174,120 +93,25 @@ struct uart_driver_state {
     uint64_t spin_limit;
 };
 
-enum uart_init_error_kind {
-    UART_INIT_ERROR_NONE = 0,
-    UART_INIT_ERROR_DEVICE_NOT_PRESENT = 1,
-    UART_INIT_ERROR_INVALID_BAUD_RATE = 2,
-    UART_INIT_ERROR_STALLED = 3
-};
-
-/* Why an initialisation failed. */
-struct uart_init_error {
-    enum uart_init_error_kind kind;
-    struct uart_invalid_divisor_error invalid_baud_rate;
-};
-
-/* When an initialisation waits until the transmitter is empty. */
-enum uart_transmitter_wait {
-    UART_TRANSMITTER_WAIT_FIRST = 0,
-    UART_TRANSMITTER_WAIT_LAST = 1,
-    UART_TRANSMITTER_WAIT_NEVER = 2
-};
-
-/* What an initialisation does beside writing the configuration, for Uart16550_init_with. */
+/* What an initialisation does beside writing the configuration, for u16550_init_with. */
 struct uart_setup {
     bool checks_presence;
-    enum uart_transmitter_wait wait;
+    uint8_t wait; /* an enum u16550_transmitter_wait */
     uint8_t outputs;
 };
 
-struct uart_maybe_non_zero_u64 {
-    bool is_some;
-    uint64_t value;
-};
-
-/* What becomes of the FIFOs when a port is left, for Uart16550_quiesce. */
-enum uart_fifo_action {
-    UART_FIFO_ACTION_KEEP = 0,
-    UART_FIFO_ACTION_RESET = 1,
-    UART_FIFO_ACTION_DISABLE = 2
-};
-
-/* Why no byte can be sent at the moment. */
-enum uart_byte_send_error {
-    UART_BYTE_SEND_ERROR_NONE = 0,
-    UART_BYTE_SEND_ERROR_NO_CAPACITY = 1,
-    UART_BYTE_SEND_ERROR_REMOTE_NOT_CLEAR_TO_SEND = 2
-};
-
-struct uart_maybe_received {
-    bool is_some;
-    struct u16550_received value;
-};
-
+#ifndef U16550_OMIT_TIMES
 struct uart_maybe_u64 {
     bool is_some;
     uint64_t value;
 };
-
-enum uart_frame_error_kind {
-    UART_FRAME_ERROR_NONE = 0,
-    UART_FRAME_ERROR_INVALID_BAUD_RATE = 1,
-    UART_FRAME_ERROR_STALLED = 2
-};
-
-/* Why a change of the frame that waits for an empty transmitter failed. */
-struct uart_frame_error {
-    enum uart_frame_error_kind kind;
-    struct uart_invalid_divisor_error invalid_baud_rate;
-};
+#endif
 
 #ifndef U16550_OMIT_LOOPBACK
-enum uart_loopback_error_kind {
-    UART_LOOPBACK_ERROR_NONE = 0,
-    UART_LOOPBACK_ERROR_SEND_ERROR = 1,
-    UART_LOOPBACK_ERROR_UNEXPECTED_LOOPBACK_BYTE = 2,
-    UART_LOOPBACK_ERROR_UNEXPECTED_LOOPBACK_MSG = 3,
-    UART_LOOPBACK_ERROR_STALLED = 4
-};
-
 struct uart_bytes16 {
     uint8_t bytes[16];
 };
-
-/* Why a loopback test failed. */
-struct uart_loopback_error {
-    enum uart_loopback_error_kind kind;
-    enum uart_byte_send_error send_error;
-    uint8_t unexpected_loopback_byte_expected;
-    uint8_t unexpected_loopback_byte_actual;
-    struct uart_bytes16 unexpected_loopback_msg_expected;
-    struct uart_bytes16 unexpected_loopback_msg_actual;
-};
 #endif
-
-struct uart_bytes1 {
-    uint8_t bytes[1];
-};
-
-#ifndef U16550_OMIT_LOOPBACK
-struct uart_maybe_bytes16 {
-    bool is_some;
-    struct uart_bytes16 value;
-};
-#endif
-
-struct uart_u64_or_stalled_error {
-    bool is_error;
-    size_t error;
-    uint64_t value;
-};
-
-struct uart_bool_or_stalled_error {
-    bool is_error;
-    size_t error;
-    bool value;
-};
 
 /*
  * A driver that sends text as terminals expect it.
@@ -306,46 +130,11 @@ struct uart_bytes3 {
 
 /* The bytes of one expansion, at most three. */
 struct uart_expansion {
-    struct uart_bytes3 first;
-    size_t second;
+    struct uart_bytes3 text;
+    size_t len;
 };
-
-#ifndef U16550_OMIT_DESIGN_WARE
-struct uart_maybe_lsr {
-    bool is_some;
-    uint8_t value;
-};
-#endif
 
 #ifndef U16550_OMIT_RINGS
-/* Why no rings were made: the first reason in this order. */
-enum uart_ring_error {
-    UART_RING_ERROR_NONE = 0,
-    UART_RING_ERROR_BAD_CAPACITY = 1,
-    UART_RING_ERROR_OUT_OF_MEMORY = 2
-};
-
-struct uart_pair_of_ring_error {
-    struct u16550_device first;
-    enum uart_ring_error second;
-};
-
-struct uart_error_notes_or_pair_of_ring_error {
-    bool is_error;
-    struct uart_pair_of_ring_error error;
-    struct u16550_core_error_notes value;
-};
-
-struct uart_maybe_byte_queue {
-    bool is_some;
-    struct u16550_core_byte_queue value;
-};
-
-struct uart_maybe_vec_u8 {
-    bool is_some;
-    struct u16550_core_vec_u8 value;
-};
-
 /*
  * How much room in the receive ring turns RTS off, and how much turns it on again. With XOFF and
  * XON it is the same.
@@ -358,153 +147,33 @@ struct uart_receive_marks {
     size_t release;
 };
 
-struct uart_maybe_bool {
-    bool is_some;
-    bool value;
-};
-
 struct uart_slice {
     const uint8_t *data;
     size_t len;
 };
 
-struct uart_pair_of_slice {
-    struct uart_slice first;
-    struct uart_slice second;
-};
-
-struct uart_u64_or_unnoted_error {
-    bool is_error;
-    size_t error;
-    uint64_t value;
-};
-
-/* Why a call of handle ended. */
-enum uart_handle_end {
-    UART_HANDLE_END_IDLE = 0,
-    UART_HANDLE_END_UNKNOWN = 1,
-    UART_HANDLE_END_LIMIT = 2
-};
-
-/* What a call of handle did. */
-struct uart_handled {
-    size_t served;
-    enum uart_handle_end end;
-};
-
-struct uart_maybe_interrupt_type {
-    bool is_some;
-    uint8_t value; /* an enum u16550_core_interrupt_type */
+struct uart_slices {
+    struct uart_slice front;
+    struct uart_slice rest;
 };
 
 struct uart_handled_or_stuck_error {
     struct u16550_core_stuck_error error;
-    struct uart_handled value;
+    struct u16550_handled value;
 };
 
-/* What lower_line did at a port. */
+/* What uart_ring_lower_line did at a port. */
 struct uart_lowered {
     struct uart_handled_or_stuck_error handled;
     uint8_t enabled;
 };
-
-struct uart_pair_of_driver_ring_error {
-    struct u16550_core_driver first;
-    enum uart_ring_error second;
-};
-
-struct uart_ring_or_pair_of_driver_ring_error {
-    bool is_error;
-    struct uart_pair_of_driver_ring_error error;
-    struct u16550_core_ring value;
-};
-#endif
-
-#ifndef U16550_OMIT_BUS
-struct uart_pair_of_driver_busy_error {
-    struct u16550_core_driver first;
-};
-
-struct uart_half_duplex_or_pair_of_driver_busy_error {
-    bool is_error;
-    struct uart_pair_of_driver_busy_error error;
-    struct u16550_core_half_duplex value;
-};
-
-enum uart_send_error_kind {
-    UART_SEND_ERROR_NONE = 0,
-    UART_SEND_ERROR_NOT_SENDING = 1,
-    UART_SEND_ERROR_STALLED = 2
-};
-
-/* Why not all bytes were sent. */
-struct uart_send_error {
-    enum uart_send_error_kind kind;
-    size_t stalled;
-};
 #endif
 
 #ifndef U16550_OMIT_TIMES
-struct uart_u64_or_invalid_divisor_error {
-    struct uart_invalid_divisor_error error;
-    uint64_t value;
-};
-
-struct uart_maybe_u32_or_invalid_divisor_error {
-    struct uart_invalid_divisor_error error;
-    struct u16550_core_maybe_u32 value;
-};
-
-struct uart_maybe_maybe_u32 {
-    bool is_some;
-    struct u16550_core_maybe_u32 value;
-};
-
-struct uart_maybe_u64_or_invalid_divisor_error {
-    struct uart_invalid_divisor_error error;
-    struct uart_maybe_u64 value;
-};
-
 struct uart_u64_4 {
     uint64_t bytes[4];
 };
-
-enum uart_nearest_divisor_error_kind {
-    UART_NEAREST_DIVISOR_ERROR_NONE = 0,
-    UART_NEAREST_DIVISOR_ERROR_TOO_FAR = 1,
-    UART_NEAREST_DIVISOR_ERROR_OUT_OF_RANGE = 2
-};
-
-/* Why the nearest divisor for a baud rate cannot be used. OutOfRange comes first. */
-struct uart_nearest_divisor_error {
-    enum uart_nearest_divisor_error_kind kind;
-    uint64_t too_far;
-    uint64_t out_of_range;
-};
-
-struct uart_config_or_nearest_divisor_error {
-    struct uart_nearest_divisor_error error;
-    struct u16550_core_config value;
-};
 #endif
-
-struct uart_non_integer_baud_rate_error {
-    uint32_t frequency;
-    uint32_t divisor;
-    struct u16550_core_maybe_u32 prescaler_division_factor;
-};
-
-struct uart_baud_rate_or_non_integer_baud_rate_error {
-    bool is_error;
-    struct uart_non_integer_baud_rate_error error;
-    struct u16550_core_baud_rate value;
-};
-
-struct uart_u32_or_non_integer_baud_rate_error {
-    bool is_error;
-    struct uart_non_integer_baud_rate_error error;
-    uint32_t value;
-};
 
 /* --------------------------------------------------------------- arithmetic */
 
@@ -635,8 +304,10 @@ static inline uintptr_t uart_times(uintptr_t number, uint8_t times)
 #if UART_MULTIPLIES >= 32
     return (uintptr_t)(number * times);
 #else
+    /* Not known to a compiler: clang would make a product of it again. */
+    volatile uint8_t known = times;
     uintptr_t product = 0;
-    for (; times != 0; number = (uintptr_t)(number << 1), times >>= 1) {
+    for (times = known; times != 0; number = (uintptr_t)(number << 1), times >>= 1) {
         if ((times & 1) != 0)
             product = (uintptr_t)(product + number);
     }
@@ -709,9 +380,21 @@ struct uart_line_ports {
     struct u16550_line_port *ports;
     size_t count;
 };
+#endif
 
-static struct uart_maybe_vec_u8
-uart_cells_in_memory(struct uart_memory *memory, uint8_t value, size_t count);
+#ifndef U16550_OMIT_LOOPBACK
+/* What came back in a loopback test that failed. */
+struct uart_loopback_failure {
+    uint8_t expected;
+    uint8_t actual;
+    struct uart_bytes16 expected_msg;
+    struct uart_bytes16 actual_msg;
+};
+#endif
+
+#ifndef U16550_OMIT_RINGS
+static bool
+uart_cells_in_memory(struct uart_memory *memory, uint8_t value, size_t count, struct u16550_core_vec_u8 *cells);
 static inline size_t uart_line_ports_number(const struct uart_line_ports *ports);
 static bool
 uart_line_ports_lower(struct uart_line_ports *ports, size_t port, size_t limit, uint32_t rounds);
@@ -745,7 +428,19 @@ static inline void uart_first_to_last(struct u16550_received *items, size_t coun
 }
 #endif
 
+/* The number of an error that is in another one. */
+static inline int uart_init_error_of(int error)
+{
+    return error == U16550_FRAME_NON_INTEGER_DIVISOR ? U16550_INIT_NON_INTEGER_DIVISOR : U16550_INIT_DIVISOR_OUT_OF_RANGE;
+}
+
 #ifndef U16550_OMIT_LOOPBACK
+/* The number of an error that is in another one. */
+static inline int uart_loopback_error_of(int error)
+{
+    return error == U16550_SEND_NO_CAPACITY ? U16550_LOOPBACK_NO_CAPACITY : U16550_LOOPBACK_NOT_CLEAR_TO_SEND;
+}
+
 /* Returns whether so many bytes are the same. */
 static inline bool uart_same_bytes(const uint8_t *one, const uint8_t *other, size_t count)
 {
@@ -756,810 +451,13 @@ static inline bool uart_same_bytes(const uint8_t *one, const uint8_t *other, siz
     return true;
 }
 
-static const uint8_t uart_echo_whole_bytes[16] =
-    { 104, 101, 108, 108, 111, 32, 119, 111, 114, 108, 100, 33, 49, 51, 51, 55 };
+static const uint8_t uart_test_message[16] =
+    { 'h', 'e', 'l', 'l', 'o', ' ', 'w', 'o', 'r', 'l', 'd', '!', '1', '3', '3', '7' };
 #endif
 
-static const uint8_t uart_expansion_of_bytes[3] = { 8, 32, 8 };
+static const uint8_t uart_erase_text[3] = { '\b', ' ', '\b' };
 
-static const uint8_t uart_expansion_of_bytes2[3] = { 13, 10, 0 };
-
-static inline struct uart_pair_of_u8_or_attach_error
-uart_bad_pair_of_u8_or_attach_error(enum uart_attach_error error)
-{
-    struct uart_pair_of_u8_or_attach_error made = { error, { 0, 0 } };
-    return made;
-}
-
-static inline struct uart_pair_of_u8 uart_make_pair_of_u8(uint8_t first, uint8_t second)
-{
-    struct uart_pair_of_u8 made = { first, second };
-    return made;
-}
-
-static inline struct uart_pair_of_u8_or_attach_error
-uart_good_pair_of_u8_or_attach_error(struct uart_pair_of_u8 value)
-{
-    struct uart_pair_of_u8_or_attach_error made = { UART_ATTACH_ERROR_NONE, value };
-    return made;
-}
-
-static inline struct uart_maybe_u16 uart_no_u16(void)
-{
-    struct uart_maybe_u16 made = { false, 0 };
-    return made;
-}
-
-static inline struct u16550_core_maybe_u32 uart_some_u32(uint32_t value)
-{
-    struct u16550_core_maybe_u32 made = { true, value };
-    return made;
-}
-
-static inline struct u16550_core_maybe_u32 uart_no_u32(void)
-{
-    struct u16550_core_maybe_u32 made = { false, 0 };
-    return made;
-}
-
-static inline struct uart_u16_or_invalid_divisor_error
-uart_good_u16_or_invalid_divisor_error(uint16_t value)
-{
-    struct uart_u16_or_invalid_divisor_error made =
-        { { UART_INVALID_DIVISOR_ERROR_NONE, { 0, 0, { false, 0 } }, 0 }, value };
-    return made;
-}
-
-static inline struct uart_invalid_divisor_error
-uart_invalid_divisor_error_out_of_range(uint32_t out_of_range)
-{
-    struct uart_invalid_divisor_error made =
-        { UART_INVALID_DIVISOR_ERROR_OUT_OF_RANGE, { 0, 0, { false, 0 } }, out_of_range };
-    return made;
-}
-
-static inline struct uart_u16_or_invalid_divisor_error
-uart_bad_u16_or_invalid_divisor_error(struct uart_invalid_divisor_error error)
-{
-    struct uart_u16_or_invalid_divisor_error made = { error, 0 };
-    return made;
-}
-
-static inline struct uart_non_integer_divisor_error
-uart_make_non_integer_divisor_error(uint32_t frequency, uint32_t baud_rate,
-    struct u16550_core_maybe_u32 prescaler_division_factor)
-{
-    struct uart_non_integer_divisor_error made =
-        { frequency, baud_rate, prescaler_division_factor };
-    return made;
-}
-
-static inline struct uart_invalid_divisor_error
-uart_invalid_divisor_error_non_integer(struct uart_non_integer_divisor_error non_integer)
-{
-    struct uart_invalid_divisor_error made =
-        { UART_INVALID_DIVISOR_ERROR_NON_INTEGER, non_integer, 0 };
-    return made;
-}
-
-static inline struct uart_maybe_u16 uart_some_u16(uint16_t value)
-{
-    struct uart_maybe_u16 made = { true, value };
-    return made;
-}
-
-static inline struct uart_configuration_error uart_configuration_error_no_divisor(void)
-{
-    struct uart_configuration_error made =
-        { UART_CONFIGURATION_ERROR_NO_DIVISOR, 0, 0, 0, 0, 0, 0, 0, 0, false, false };
-    return made;
-}
-
-static inline struct uart_configuration_error
-uart_configuration_error_line_control(uint8_t line_control_expected, uint8_t line_control_shown)
-{
-    struct uart_configuration_error made =
-        { UART_CONFIGURATION_ERROR_LINE_CONTROL, line_control_expected, line_control_shown, 0, 0,
-        0, 0, 0, 0, false, false };
-    return made;
-}
-
-static inline struct uart_configuration_error uart_configuration_error_none(void)
-{
-    struct uart_configuration_error made =
-        { UART_CONFIGURATION_ERROR_NONE, 0, 0, 0, 0, 0, 0, 0, 0, false, false };
-    return made;
-}
-
-static inline struct uart_configuration_error
-uart_configuration_error_modem_control(uint8_t modem_control_expected, uint8_t modem_control_shown)
-{
-    struct uart_configuration_error made =
-        { UART_CONFIGURATION_ERROR_MODEM_CONTROL, 0, 0, modem_control_expected,
-        modem_control_shown, 0, 0, 0, 0, false, false };
-    return made;
-}
-
-static inline struct uart_configuration_error
-uart_configuration_error_interrupts(uint8_t interrupts_expected, uint8_t interrupts_shown)
-{
-    struct uart_configuration_error made =
-        { UART_CONFIGURATION_ERROR_INTERRUPTS, 0, 0, 0, 0, interrupts_expected, interrupts_shown,
-        0, 0, false, false };
-    return made;
-}
-
-static inline struct uart_configuration_error
-uart_configuration_error_divisor(uint16_t divisor_expected, uint16_t divisor_shown)
-{
-    struct uart_configuration_error made =
-        { UART_CONFIGURATION_ERROR_DIVISOR, 0, 0, 0, 0, 0, 0, divisor_expected, divisor_shown,
-        false, false };
-    return made;
-}
-
-static inline struct uart_configuration_error
-uart_configuration_error_fifos(bool fifos_expected, bool fifos_shown)
-{
-    struct uart_configuration_error made =
-        { UART_CONFIGURATION_ERROR_FIFOS, 0, 0, 0, 0, 0, 0, 0, 0, fifos_expected, fifos_shown };
-    return made;
-}
-
-static inline struct uart_fifo_size_error uart_fifo_size_error_fifos_off(void)
-{
-    struct uart_fifo_size_error made = { UART_FIFO_SIZE_ERROR_FIFOS_OFF, 0 };
-    return made;
-}
-
-static inline struct uart_bool_or_fifo_size_error
-uart_bad_bool_or_fifo_size_error(struct uart_fifo_size_error error)
-{
-    struct uart_bool_or_fifo_size_error made = { error, false };
-    return made;
-}
-
-static inline struct uart_fifo_size_error uart_fifo_size_error_stalled(void)
-{
-    struct uart_fifo_size_error made = { UART_FIFO_SIZE_ERROR_STALLED, 0 };
-    return made;
-}
-
-static inline struct uart_bool_or_fifo_size_error uart_good_bool_or_fifo_size_error(bool value)
-{
-    struct uart_bool_or_fifo_size_error made = { { UART_FIFO_SIZE_ERROR_NONE, 0 }, value };
-    return made;
-}
-
-static inline struct uart_fifo_size_or_fifo_size_error
-uart_bad_fifo_size_or_fifo_size_error(struct uart_fifo_size_error error)
-{
-    struct uart_fifo_size_or_fifo_size_error made = { error, U16550_CORE_FIFO_SIZE_SIXTEEN };
-    return made;
-}
-
-static inline struct u16550_core_maybe_fifo_trigger_level
-uart_some_fifo_trigger_level(uint8_t value)
-{
-    struct u16550_core_maybe_fifo_trigger_level made = { true, value };
-    return made;
-}
-
-static inline struct u16550_core_maybe_fifo_trigger_level uart_no_fifo_trigger_level(void)
-{
-    struct u16550_core_maybe_fifo_trigger_level made =
-        { false, U16550_CORE_FIFO_TRIGGER_LEVEL_ONE };
-    return made;
-}
-
-static inline struct u16550_core_maybe_u8 uart_no_u8(void)
-{
-    struct u16550_core_maybe_u8 made = { false, 0 };
-    return made;
-}
-
-static inline struct u16550_core_maybe_u8 uart_some_u8(uint8_t value)
-{
-    struct u16550_core_maybe_u8 made = { true, value };
-    return made;
-}
-
-static inline struct uart_maybe_fifo_size uart_no_fifo_size(void)
-{
-    struct uart_maybe_fifo_size made = { false, U16550_CORE_FIFO_SIZE_SIXTEEN };
-    return made;
-}
-
-static inline struct uart_maybe_fifo_size uart_some_fifo_size(uint8_t value)
-{
-    struct uart_maybe_fifo_size made = { true, value };
-    return made;
-}
-
-static inline struct uart_fifo_size_or_fifo_size_error
-uart_good_fifo_size_or_fifo_size_error(uint8_t value)
-{
-    struct uart_fifo_size_or_fifo_size_error made = { { UART_FIFO_SIZE_ERROR_NONE, 0 }, value };
-    return made;
-}
-
-static inline struct uart_fifo_size_error uart_fifo_size_error_too_few(uint64_t too_few)
-{
-    struct uart_fifo_size_error made = { UART_FIFO_SIZE_ERROR_TOO_FEW, too_few };
-    return made;
-}
-
-static inline struct uart_maybe_stalled_error uart_no_stalled_error(void)
-{
-    struct uart_maybe_stalled_error made = { false, 0 };
-    return made;
-}
-
-static inline struct uart_maybe_stalled_error uart_failed_stalled_error(size_t error)
-{
-    struct uart_maybe_stalled_error made = { true, error };
-    return made;
-}
-
-static inline struct uart_init_error
-uart_init_error_invalid_baud_rate(struct uart_invalid_divisor_error invalid_baud_rate)
-{
-    struct uart_init_error made = { UART_INIT_ERROR_INVALID_BAUD_RATE, invalid_baud_rate };
-    return made;
-}
-
-static inline struct uart_init_error uart_init_error_device_not_present(void)
-{
-    struct uart_init_error made =
-        { UART_INIT_ERROR_DEVICE_NOT_PRESENT,
-        { UART_INVALID_DIVISOR_ERROR_NONE, { 0, 0, { false, 0 } }, 0 } };
-    return made;
-}
-
-static inline struct uart_init_error uart_init_error_stalled(void)
-{
-    struct uart_init_error made =
-        { UART_INIT_ERROR_STALLED, { UART_INVALID_DIVISOR_ERROR_NONE, { 0, 0, { false, 0 } }, 0 } };
-    return made;
-}
-
-static inline struct uart_init_error uart_init_error_none(void)
-{
-    struct uart_init_error made =
-        { UART_INIT_ERROR_NONE, { UART_INVALID_DIVISOR_ERROR_NONE, { 0, 0, { false, 0 } }, 0 } };
-    return made;
-}
-
-static inline struct u16550_core_baud_rate uart_baud_rate_baud9600(void)
-{
-    struct u16550_core_baud_rate made = { U16550_CORE_BAUD_RATE_BAUD9600, 0 };
-    return made;
-}
-
-static inline struct uart_maybe_received uart_no_received(void)
-{
-    struct uart_maybe_received made = { false, { 0, 0 } };
-    return made;
-}
-
-static inline struct u16550_received uart_make_received(uint8_t byte, uint8_t errors)
-{
-    struct u16550_received made = { byte, errors };
-    return made;
-}
-
-static inline struct uart_maybe_received uart_some_received(struct u16550_received value)
-{
-    struct uart_maybe_received made = { true, value };
-    return made;
-}
-
-static inline struct uart_maybe_u64 uart_no_u64(void)
-{
-    struct uart_maybe_u64 made = { false, 0 };
-    return made;
-}
-
-static inline struct uart_maybe_u64 uart_some_u64(uint64_t value)
-{
-    struct uart_maybe_u64 made = { true, value };
-    return made;
-}
-
-static inline struct uart_invalid_divisor_error uart_invalid_divisor_error_none(void)
-{
-    struct uart_invalid_divisor_error made =
-        { UART_INVALID_DIVISOR_ERROR_NONE, { 0, 0, { false, 0 } }, 0 };
-    return made;
-}
-
-static inline struct uart_frame_error
-uart_frame_error_invalid_baud_rate(struct uart_invalid_divisor_error invalid_baud_rate)
-{
-    struct uart_frame_error made = { UART_FRAME_ERROR_INVALID_BAUD_RATE, invalid_baud_rate };
-    return made;
-}
-
-static inline struct uart_frame_error uart_frame_error_stalled(void)
-{
-    struct uart_frame_error made =
-        { UART_FRAME_ERROR_STALLED,
-        { UART_INVALID_DIVISOR_ERROR_NONE, { 0, 0, { false, 0 } }, 0 } };
-    return made;
-}
-
-static inline struct uart_frame_error uart_frame_error_none(void)
-{
-    struct uart_frame_error made =
-        { UART_FRAME_ERROR_NONE, { UART_INVALID_DIVISOR_ERROR_NONE, { 0, 0, { false, 0 } }, 0 } };
-    return made;
-}
-
-#ifndef U16550_OMIT_LOOPBACK
-static inline struct uart_loopback_error uart_loopback_error_stalled(void)
-{
-    struct uart_loopback_error made =
-        { UART_LOOPBACK_ERROR_STALLED, UART_BYTE_SEND_ERROR_NONE, 0, 0, { { 0 } }, { { 0 } } };
-    return made;
-}
-
-static inline struct uart_loopback_error
-uart_loopback_error_send_error(enum uart_byte_send_error send_error)
-{
-    struct uart_loopback_error made =
-        { UART_LOOPBACK_ERROR_SEND_ERROR, send_error, 0, 0, { { 0 } }, { { 0 } } };
-    return made;
-}
-
-static inline struct uart_loopback_error uart_loopback_error_none(void)
-{
-    struct uart_loopback_error made =
-        { UART_LOOPBACK_ERROR_NONE, UART_BYTE_SEND_ERROR_NONE, 0, 0, { { 0 } }, { { 0 } } };
-    return made;
-}
-
-static inline struct uart_loopback_error
-uart_loopback_error_unexpected_loopback_byte(uint8_t unexpected_loopback_byte_expected,
-    uint8_t unexpected_loopback_byte_actual)
-{
-    struct uart_loopback_error made =
-        { UART_LOOPBACK_ERROR_UNEXPECTED_LOOPBACK_BYTE, UART_BYTE_SEND_ERROR_NONE,
-        unexpected_loopback_byte_expected, unexpected_loopback_byte_actual, { { 0 } }, { { 0 } } };
-    return made;
-}
-
-static inline struct uart_maybe_bytes16 uart_no_bytes16(void)
-{
-    struct uart_maybe_bytes16 made = { false, { { 0 } } };
-    return made;
-}
-
-static inline struct uart_maybe_bytes16 uart_some_bytes16(struct uart_bytes16 value)
-{
-    struct uart_maybe_bytes16 made = { true, value };
-    return made;
-}
-
-static inline struct uart_loopback_error
-uart_loopback_error_unexpected_loopback_msg(struct uart_bytes16 unexpected_loopback_msg_expected,
-    struct uart_bytes16 unexpected_loopback_msg_actual)
-{
-    struct uart_loopback_error made =
-        { UART_LOOPBACK_ERROR_UNEXPECTED_LOOPBACK_MSG, UART_BYTE_SEND_ERROR_NONE, 0, 0,
-        unexpected_loopback_msg_expected, unexpected_loopback_msg_actual };
-    return made;
-}
-#endif
-
-static inline struct uart_u64_or_stalled_error uart_good_u64_or_stalled_error(uint64_t value)
-{
-    struct uart_u64_or_stalled_error made = { false, 0, value };
-    return made;
-}
-
-static inline struct uart_u64_or_stalled_error uart_bad_u64_or_stalled_error(size_t error)
-{
-    struct uart_u64_or_stalled_error made = { true, error, 0 };
-    return made;
-}
-
-static inline struct uart_bool_or_stalled_error uart_good_bool_or_stalled_error(bool value)
-{
-    struct uart_bool_or_stalled_error made = { false, 0, value };
-    return made;
-}
-
-static inline struct uart_expansion uart_make_expansion(struct uart_bytes3 first, size_t second)
-{
-    struct uart_expansion made = { first, second };
-    return made;
-}
-
-#ifndef U16550_OMIT_DESIGN_WARE
-static inline struct uart_maybe_lsr uart_no_lsr(void)
-{
-    struct uart_maybe_lsr made = { false, 0 };
-    return made;
-}
-
-static inline struct uart_maybe_lsr uart_some_lsr(uint8_t value)
-{
-    struct uart_maybe_lsr made = { true, value };
-    return made;
-}
-
-static inline struct u16550_core_maybe_design_ware_fault uart_some_design_ware_fault(uint8_t value)
-{
-    struct u16550_core_maybe_design_ware_fault made = { true, value };
-    return made;
-}
-
-static inline struct u16550_core_maybe_design_ware_fault uart_no_design_ware_fault(void)
-{
-    struct u16550_core_maybe_design_ware_fault made =
-        { false, U16550_CORE_DESIGN_WARE_FAULT_LINE_CONTROL_IGNORED };
-    return made;
-}
-#endif
-
-#ifndef U16550_OMIT_RINGS
-static inline struct uart_maybe_byte_queue uart_no_byte_queue(void)
-{
-    struct uart_maybe_byte_queue made = { false, { { NULL, 0, 0 }, 0, 0 } };
-    return made;
-}
-
-static inline struct u16550_core_byte_queue
-uart_make_byte_queue(struct u16550_core_vec_u8 cells, size_t front, size_t len)
-{
-    struct u16550_core_byte_queue made = { cells, front, len };
-    return made;
-}
-
-static inline struct uart_maybe_byte_queue uart_some_byte_queue(struct u16550_core_byte_queue value)
-{
-    struct uart_maybe_byte_queue made = { true, value };
-    return made;
-}
-
-static inline struct uart_maybe_bool uart_some_bool(void)
-{
-    struct uart_maybe_bool made = { true, false };
-    return made;
-}
-
-static inline struct uart_maybe_bool uart_some_bool_2(void)
-{
-    struct uart_maybe_bool made = { true, true };
-    return made;
-}
-
-static inline struct uart_maybe_bool uart_no_bool(void)
-{
-    struct uart_maybe_bool made = { false, false };
-    return made;
-}
-
-static inline struct uart_slice uart_make_slice(const uint8_t *data, size_t len)
-{
-    struct uart_slice made = { data, len };
-    return made;
-}
-
-static inline struct uart_pair_of_slice
-uart_make_pair_of_slice(struct uart_slice first, struct uart_slice second)
-{
-    struct uart_pair_of_slice made = { first, second };
-    return made;
-}
-
-static inline struct uart_u64_or_unnoted_error uart_bad_u64_or_unnoted_error(size_t error)
-{
-    struct uart_u64_or_unnoted_error made = { true, error, 0 };
-    return made;
-}
-
-static inline struct uart_u64_or_unnoted_error uart_good_u64_or_unnoted_error(uint64_t value)
-{
-    struct uart_u64_or_unnoted_error made = { false, 0, value };
-    return made;
-}
-
-static inline struct uart_maybe_interrupt_type uart_some_interrupt_type(uint8_t value)
-{
-    struct uart_maybe_interrupt_type made = { true, value };
-    return made;
-}
-
-static inline struct uart_maybe_interrupt_type uart_no_interrupt_type(void)
-{
-    struct uart_maybe_interrupt_type made =
-        { false, U16550_CORE_INTERRUPT_TYPE_RECEIVER_LINE_STATUS };
-    return made;
-}
-
-static inline struct uart_handled uart_make_handled(size_t served, enum uart_handle_end end)
-{
-    struct uart_handled made = { served, end };
-    return made;
-}
-
-static inline struct uart_handled_or_stuck_error
-uart_bad_handled_or_stuck_error(struct u16550_core_stuck_error error)
-{
-    struct uart_handled_or_stuck_error made = { error, { 0, UART_HANDLE_END_IDLE } };
-    return made;
-}
-
-static inline struct u16550_core_maybe_stuck_error uart_no_stuck_error(void)
-{
-    struct u16550_core_maybe_stuck_error made =
-        { false,
-        { U16550_CORE_STUCK_ERROR_NONE, 0, U16550_CORE_INTERRUPT_TYPE_RECEIVER_LINE_STATUS } };
-    return made;
-}
-
-static inline struct u16550_core_stuck_error uart_stuck_error_pending(uint8_t pending)
-{
-    struct u16550_core_stuck_error made = { U16550_CORE_STUCK_ERROR_PENDING, 0, pending };
-    return made;
-}
-
-static inline struct u16550_core_maybe_stuck_error
-uart_some_stuck_error(struct u16550_core_stuck_error value)
-{
-    struct u16550_core_maybe_stuck_error made = { true, value };
-    return made;
-}
-
-static inline struct u16550_core_stuck_error uart_stuck_error_unknown(uint8_t unknown)
-{
-    struct u16550_core_stuck_error made =
-        { U16550_CORE_STUCK_ERROR_UNKNOWN, unknown,
-        U16550_CORE_INTERRUPT_TYPE_RECEIVER_LINE_STATUS };
-    return made;
-}
-
-static inline struct uart_handled_or_stuck_error
-uart_good_handled_or_stuck_error(struct uart_handled value)
-{
-    struct uart_handled_or_stuck_error made =
-        { { U16550_CORE_STUCK_ERROR_NONE, 0, U16550_CORE_INTERRUPT_TYPE_RECEIVER_LINE_STATUS },
-        value };
-    return made;
-}
-
-static inline struct uart_lowered
-uart_make_lowered(struct uart_handled_or_stuck_error handled, uint8_t enabled)
-{
-    struct uart_lowered made = { handled, enabled };
-    return made;
-}
-#endif
-
-#ifndef U16550_OMIT_BUS
-static inline struct u16550_core_half_duplex
-uart_make_half_duplex(struct u16550_core_driver uart, struct u16550_core_direction direction)
-{
-    struct u16550_core_half_duplex made = { uart, direction, true };
-    return made;
-}
-
-static inline struct uart_send_error uart_send_error_not_sending(void)
-{
-    struct uart_send_error made = { UART_SEND_ERROR_NOT_SENDING, 0 };
-    return made;
-}
-
-static inline struct uart_send_error uart_send_error_stalled(size_t stalled)
-{
-    struct uart_send_error made = { UART_SEND_ERROR_STALLED, stalled };
-    return made;
-}
-
-static inline struct uart_send_error uart_send_error_none(void)
-{
-    struct uart_send_error made = { UART_SEND_ERROR_NONE, 0 };
-    return made;
-}
-#endif
-
-static inline struct u16550_core_baud_rate uart_baud_rate_baud115200(void)
-{
-    struct u16550_core_baud_rate made = { U16550_CORE_BAUD_RATE_BAUD115200, 0 };
-    return made;
-}
-
-static inline struct u16550_core_baud_rate uart_baud_rate_baud57600(void)
-{
-    struct u16550_core_baud_rate made = { U16550_CORE_BAUD_RATE_BAUD57600, 0 };
-    return made;
-}
-
-static inline struct u16550_core_baud_rate uart_baud_rate_baud38400(void)
-{
-    struct u16550_core_baud_rate made = { U16550_CORE_BAUD_RATE_BAUD38400, 0 };
-    return made;
-}
-
-static inline struct u16550_core_baud_rate uart_baud_rate_baud4800(void)
-{
-    struct u16550_core_baud_rate made = { U16550_CORE_BAUD_RATE_BAUD4800, 0 };
-    return made;
-}
-
-static inline struct u16550_core_baud_rate uart_baud_rate_baud2400(void)
-{
-    struct u16550_core_baud_rate made = { U16550_CORE_BAUD_RATE_BAUD2400, 0 };
-    return made;
-}
-
-static inline struct u16550_core_baud_rate uart_baud_rate_baud1200(void)
-{
-    struct u16550_core_baud_rate made = { U16550_CORE_BAUD_RATE_BAUD1200, 0 };
-    return made;
-}
-
-static inline struct u16550_core_baud_rate uart_baud_rate_baud600(void)
-{
-    struct u16550_core_baud_rate made = { U16550_CORE_BAUD_RATE_BAUD600, 0 };
-    return made;
-}
-
-static inline struct u16550_core_baud_rate uart_baud_rate_baud300(void)
-{
-    struct u16550_core_baud_rate made = { U16550_CORE_BAUD_RATE_BAUD300, 0 };
-    return made;
-}
-
-static inline struct u16550_core_baud_rate uart_baud_rate_baud150(void)
-{
-    struct u16550_core_baud_rate made = { U16550_CORE_BAUD_RATE_BAUD150, 0 };
-    return made;
-}
-
-static inline struct u16550_core_baud_rate uart_baud_rate_baud110(void)
-{
-    struct u16550_core_baud_rate made = { U16550_CORE_BAUD_RATE_BAUD110, 0 };
-    return made;
-}
-
-static inline struct u16550_core_baud_rate uart_baud_rate_custom(uint32_t custom)
-{
-    struct u16550_core_baud_rate made = { U16550_CORE_BAUD_RATE_CUSTOM, custom };
-    return made;
-}
-
-#ifndef U16550_OMIT_TIMES
-static inline struct uart_maybe_maybe_u32 uart_some_maybe_u32(struct u16550_core_maybe_u32 value)
-{
-    struct uart_maybe_maybe_u32 made = { true, value };
-    return made;
-}
-
-static inline struct uart_maybe_maybe_u32 uart_no_maybe_u32(void)
-{
-    struct uart_maybe_maybe_u32 made = { false, { false, 0 } };
-    return made;
-}
-
-static inline struct uart_maybe_u32_or_invalid_divisor_error
-uart_good_maybe_u32_or_invalid_divisor_error(struct u16550_core_maybe_u32 value)
-{
-    struct uart_maybe_u32_or_invalid_divisor_error made =
-        { { UART_INVALID_DIVISOR_ERROR_NONE, { 0, 0, { false, 0 } }, 0 }, value };
-    return made;
-}
-
-static inline struct uart_maybe_u32_or_invalid_divisor_error
-uart_bad_maybe_u32_or_invalid_divisor_error(struct uart_invalid_divisor_error error)
-{
-    struct uart_maybe_u32_or_invalid_divisor_error made = { error, { false, 0 } };
-    return made;
-}
-
-static inline struct uart_u64_or_invalid_divisor_error
-uart_bad_u64_or_invalid_divisor_error(struct uart_invalid_divisor_error error)
-{
-    struct uart_u64_or_invalid_divisor_error made = { error, 0 };
-    return made;
-}
-
-static inline struct uart_u64_or_invalid_divisor_error
-uart_good_u64_or_invalid_divisor_error(uint64_t value)
-{
-    struct uart_u64_or_invalid_divisor_error made =
-        { { UART_INVALID_DIVISOR_ERROR_NONE, { 0, 0, { false, 0 } }, 0 }, value };
-    return made;
-}
-
-static inline struct uart_maybe_u64_or_invalid_divisor_error
-uart_bad_maybe_u64_or_invalid_divisor_error(struct uart_invalid_divisor_error error)
-{
-    struct uart_maybe_u64_or_invalid_divisor_error made = { error, { false, 0 } };
-    return made;
-}
-
-static inline struct uart_maybe_u64_or_invalid_divisor_error
-uart_good_maybe_u64_or_invalid_divisor_error(struct uart_maybe_u64 value)
-{
-    struct uart_maybe_u64_or_invalid_divisor_error made =
-        { { UART_INVALID_DIVISOR_ERROR_NONE, { 0, 0, { false, 0 } }, 0 }, value };
-    return made;
-}
-
-static inline struct uart_nearest_divisor_error
-uart_nearest_divisor_error_out_of_range(uint64_t out_of_range)
-{
-    struct uart_nearest_divisor_error made =
-        { UART_NEAREST_DIVISOR_ERROR_OUT_OF_RANGE, 0, out_of_range };
-    return made;
-}
-
-static inline struct uart_config_or_nearest_divisor_error
-uart_bad_config_or_nearest_divisor_error(struct uart_nearest_divisor_error error)
-{
-    struct uart_config_or_nearest_divisor_error made =
-        { error,
-        { 0, 0, { false, 0 }, { false, U16550_CORE_FIFO_TRIGGER_LEVEL_ONE },
-        { U16550_CORE_BAUD_RATE_BAUD115200, 0 }, U16550_CORE_WORD_LENGTH_FIVE_BITS, false,
-        U16550_CORE_PARITY_DISABLED, false } };
-    return made;
-}
-
-static inline struct uart_nearest_divisor_error uart_nearest_divisor_error_too_far(uint64_t too_far)
-{
-    struct uart_nearest_divisor_error made = { UART_NEAREST_DIVISOR_ERROR_TOO_FAR, too_far, 0 };
-    return made;
-}
-
-static inline struct uart_config_or_nearest_divisor_error
-uart_good_config_or_nearest_divisor_error(struct u16550_core_config value)
-{
-    struct uart_config_or_nearest_divisor_error made =
-        { { UART_NEAREST_DIVISOR_ERROR_NONE, 0, 0 }, value };
-    return made;
-}
-#endif
-
-static inline struct uart_non_integer_baud_rate_error
-uart_make_non_integer_baud_rate_error(uint32_t frequency, uint32_t divisor,
-    struct u16550_core_maybe_u32 prescaler_division_factor)
-{
-    struct uart_non_integer_baud_rate_error made =
-        { frequency, divisor, prescaler_division_factor };
-    return made;
-}
-
-static inline struct uart_baud_rate_or_non_integer_baud_rate_error
-uart_bad_baud_rate_or_non_integer_baud_rate_error(struct uart_non_integer_baud_rate_error error)
-{
-    struct uart_baud_rate_or_non_integer_baud_rate_error made =
-        { true, error, { U16550_CORE_BAUD_RATE_BAUD115200, 0 } };
-    return made;
-}
-
-static inline struct uart_u32_or_non_integer_baud_rate_error
-uart_good_u32_or_non_integer_baud_rate_error(uint32_t value)
-{
-    struct uart_u32_or_non_integer_baud_rate_error made = { false, { 0, 0, { false, 0 } }, value };
-    return made;
-}
-
-static inline struct uart_u32_or_non_integer_baud_rate_error
-uart_bad_u32_or_non_integer_baud_rate_error(struct uart_non_integer_baud_rate_error error)
-{
-    struct uart_u32_or_non_integer_baud_rate_error made = { true, error, 0 };
-    return made;
-}
-
-static inline struct uart_baud_rate_or_non_integer_baud_rate_error
-uart_good_baud_rate_or_non_integer_baud_rate_error(struct u16550_core_baud_rate value)
-{
-    struct uart_baud_rate_or_non_integer_baud_rate_error made =
-        { false, { 0, 0, { false, 0 } }, value };
-    return made;
-}
+static const uint8_t uart_newline_text[3] = { '\r', '\n', 0 };
 
 /* Reads a register of which no bits are saved. */
 static inline uint8_t uart_read_register(struct u16550_core_driver *uart, size_t offset)
@@ -1589,20 +487,21 @@ uart_write_register(struct u16550_core_driver *uart, size_t offset, uint8_t valu
 /*
  * Reads and returns the divisor latch, low byte first.
  *
- * Sets DLAB in LCR for the two reads, and then writes LCR back. In between offsets 0 and 1 are
- * the latch, so nothing else may access the chip: neither data nor IER can be reached.
+ * Sets DLAB in LCR for the two reads, and then writes LCR back. In between offsets 0 and 1 are the
+ * latch, so nothing else may access the chip: neither data nor IER can be reached.
  *
- * Proved: LCR is read, and written with DLAB; the divisor latch is read, its low byte first;
- * and LCR is written back.
+ * Proved: LCR is read, and written with DLAB; the divisor latch is read, its low byte first; and
+ * LCR is written back.
  */
-static inline struct uart_pair_of_u8 uart_dll_dlm(struct u16550_core_driver *uart)
+static struct uart_latch uart_dll_dlm(struct u16550_core_driver *uart)
 {
     uint8_t lcr = uart_read_register(uart, UART_LCR);
     uart_write_register(uart, UART_LCR, lcr | U16550_LCR_DLAB);
-    uint8_t dll = uart_read_register(uart, UART_DATA);
-    uint8_t dlm = uart_read_register(uart, UART_IER);
+    uint8_t dll = uart_read_register(uart, UART_DLL);
+    uint8_t dlm = uart_read_register(uart, UART_DLM);
     uart_write_register(uart, UART_LCR, lcr);
-    return uart_make_pair_of_u8(dll, dlm);
+    struct uart_latch latch = { dll, dlm };
+    return latch;
 }
 
 /*
@@ -1618,45 +517,45 @@ static inline uint8_t uart_isr(struct u16550_core_driver *uart)
 /* Returns whether the FIFOs are on and work: bits 6 and 7 are both set then. */
 static inline bool uart_isr_fifo_enabled(uint8_t isr)
 {
-    return (isr & (U16550_ISR_FIFOS_ENABLED0 | U16550_ISR_FIFOS_ENABLED1)) ==
-        (U16550_ISR_FIFOS_ENABLED0 | U16550_ISR_FIFOS_ENABLED1);
+    return (isr & U16550_ISR_FIFOS_ENABLED) == U16550_ISR_FIFOS_ENABLED;
 }
 
 /*
- * Takes a port as it was set up, for example by firmware, in place of init: finds out
+ * Takes a port as it was set up, for example by firmware, in place of u16550_init: finds out
  * whether the FIFOs are on, and returns the divisor latch, low byte first. It is not 0.
  *
- * Reads LCR and MCR, then the divisor latch as dll_dlm does, which writes LCR and restores
- * it, and then ISR. Nothing else is written. The read of ISR acknowledges a THR_EMPTY
- * interrupt. Afterwards fifo_enabled is as ISR showed. config is not changed, since the
- * clock of the chip is not known: it does not say what the chip has.
+ * Reads LCR and MCR, then the divisor latch as u16550_dll_dlm does, which writes LCR and restores
+ * it, and then ISR. Nothing else is written. The read of ISR acknowledges a THR_EMPTY interrupt.
+ * Afterwards fifo_enabled is as ISR showed. config is not changed, since the clock of the chip is
+ * not known: it does not say what the chip has.
  *
  * Errors
  *
- * - DivisorLatchOpen if DLAB is set.
- * - Loopback if DLAB is clear, and the chip is in loopback.
- * - NoDivisor if neither is so, and the divisor latch reads as 0: no port is set up there,
- *   or there is none. So a bus where all registers read as 0 is refused.
+ * - U16550_ATTACH_DIVISOR_LATCH_OPEN if DLAB is set.
+ * - U16550_ATTACH_LOOPBACK if DLAB is clear, and the chip is in loopback.
+ * - U16550_ATTACH_NO_DIVISOR if neither is so, and the divisor latch reads as 0: no port is set up
+ *   there, or there is none. So a bus where all registers read as 0 is refused.
  *
- * ISR was not read then, so no interrupt was acknowledged, and the driver is unchanged. For
- * the first two only LCR and MCR were read, and nothing was written. For NoDivisor DLAB was
- * set for the look at the latch, and LCR written back.
+ * ISR was not read then, so no interrupt was acknowledged, and the driver is unchanged. For the
+ * first two only LCR and MCR were read, and nothing was written. For U16550_ATTACH_NO_DIVISOR DLAB
+ * was set for the look at the latch, and LCR written back.
  *
- * Proved: LCR shows that DLAB is off, MCR that loopback is off, the divisor latch a divisor,
- * and ISR whether the FIFOs are on, which the driver takes them to be; or these are read up
- * to the one that the error is about, and the driver stays as it was.
+ * Proved: LCR shows that DLAB is off, MCR that loopback is off, the divisor latch a divisor, and
+ * ISR whether the FIFOs are on, which the driver takes them to be; or these are read up to the one
+ * that the error is about, and the driver stays as it was.
  */
-static struct uart_pair_of_u8_or_attach_error uart_attach(struct u16550_core_driver *uart)
+static int uart_attach(struct u16550_core_driver *uart, struct uart_latch *latch)
 {
     if ((uart_lcr(uart) & U16550_LCR_DLAB) != 0)
-        return uart_bad_pair_of_u8_or_attach_error(UART_ATTACH_ERROR_DIVISOR_LATCH_OPEN);
+        return U16550_ATTACH_DIVISOR_LATCH_OPEN;
     if ((uart_mcr(uart) & U16550_MCR_LOOP_BACK) != 0)
-        return uart_bad_pair_of_u8_or_attach_error(UART_ATTACH_ERROR_LOOPBACK);
-    struct uart_pair_of_u8 pair = uart_dll_dlm(uart);
-    if (pair.first == 0 && pair.second == 0)
-        return uart_bad_pair_of_u8_or_attach_error(UART_ATTACH_ERROR_NO_DIVISOR);
+        return U16550_ATTACH_LOOPBACK;
+    struct uart_latch found_latch = uart_dll_dlm(uart);
+    if (found_latch.dll == 0 && found_latch.dlm == 0)
+        return U16550_ATTACH_NO_DIVISOR;
     uart->fifo_enabled = uart_isr_fifo_enabled(uart_isr(uart));
-    return uart_good_pair_of_u8_or_attach_error(uart_make_pair_of_u8(pair.first, pair.second));
+    *latch = found_latch;
+    return U16550_OK;
 }
 
 /* Returns the backend, to read its state. Makes no access. */
@@ -1668,9 +567,9 @@ static inline const struct u16550_device *uart_backend(const struct u16550_core_
 /*
  * Returns the backend, for raw accesses by the caller. Makes no access itself.
  *
- * Raw accesses bypass the driver: status bits that they clear are not saved, and the driver
- * does not notice what they change. After raw accesses that changed the setup of the chip,
- * call init again with a configuration that matches.
+ * Raw accesses bypass the driver: status bits that they clear are not saved, and the driver does
+ * not notice what they change. After raw accesses that changed the setup of the chip, call
+ * u16550_init again with a configuration that matches.
  */
 static inline struct u16550_device *uart_backend_mut(struct u16550_core_driver *uart)
 {
@@ -1678,7 +577,7 @@ static inline struct u16550_device *uart_backend_mut(struct u16550_core_driver *
 }
 
 /* Returns the number of bits per second. */
-static uint32_t uart_baud_rate_to_integer(struct u16550_core_baud_rate baud_rate)
+static uint32_t uart_baud_rate_bps(struct u16550_core_baud_rate baud_rate)
 {
     switch (baud_rate.kind) {
     case U16550_CORE_BAUD_RATE_BAUD115200:
@@ -1709,36 +608,29 @@ static uint32_t uart_baud_rate_to_integer(struct u16550_core_baud_rate baud_rate
     }
 }
 
-static inline bool uart_option_is_none_or_u32_is_none_or_self(struct u16550_core_maybe_u32 part1)
-{
-    return !part1.is_some || (part1.value <= 15);
-}
-
 /*
- * Returns whether the arithmetic of the baud rate accepts this configuration, as
- * Uart16550_init requires: the frequency and the baud rate are not zero, and the prescaler
- * division factor is None or at most 15.
+ * Returns whether the arithmetic of the baud rate accepts this configuration, as u16550_init
+ * requires: the frequency and the baud rate are not zero, and the prescaler division factor is
+ * none or at most 15.
  *
- * init may still refuse the baud rate, if its divisor is not a whole number or does not fit
+ * u16550_init may still refuse the baud rate, if its divisor is not a whole number or does not fit
  * into the divisor latch.
  */
 static inline bool uart_config_is_computable(const struct u16550_core_config *config)
 {
-    bool is_so = config->frequency != 0 && uart_baud_rate_to_integer(config->baud_rate) != 0;
-    return is_so && uart_option_is_none_or_u32_is_none_or_self(config->prescaler_division_factor);
+    if ((config->frequency == 0) || (uart_baud_rate_bps(config->baud_rate) == 0))
+        return false;
+    struct u16550_core_maybe_u32 prescaler_division_factor = config->prescaler_division_factor;
+    return !prescaler_division_factor.is_some || (prescaler_division_factor.value <= 15);
 }
 
-/*
- * Returns the quotient if there is no remainder.
- *
- * Proved: the one value that has the property, or none if no value has it.
- */
-static inline struct u16550_core_maybe_u32 uart_whole_quotient(uint32_t dividend, uint64_t divisor)
+/* Returns the quotient if there is no remainder. */
+static inline bool uart_whole_quotient(uint32_t dividend, uint64_t divisor, uint32_t *quotient)
 {
-    uint64_t dividend2 = (uint64_t)dividend;
-    if (uart_rest_64(dividend2, divisor) == 0)
-        return uart_some_u32((uint32_t)uart_quotient_64(dividend2, divisor));
-    return uart_no_u32();
+    if (uart_rest_64(dividend, divisor) != 0)
+        return false;
+    *quotient = (uint32_t)uart_quotient_64(dividend, divisor);
+    return true;
 }
 
 /*
@@ -1747,17 +639,14 @@ static inline struct u16550_core_maybe_u32 uart_whole_quotient(uint32_t dividend
  * a product, while the code divides.
  *
  * The ticks are computed in 64 bits: they reach 16 * 16 * (2^32 - 1).
- *
- * Proved: the one value that has the property, or none if no value has it.
  */
-static inline struct u16550_core_maybe_u32
-uart_other_factor(uint32_t frequency, uint32_t factor,
-    struct u16550_core_maybe_u32 prescaler_division_factor)
+static inline bool
+uart_divide_clock(uint32_t frequency, uint32_t factor,
+    struct u16550_core_maybe_u32 prescaler_division_factor, uint32_t *quotient)
 {
-    return uart_whole_quotient(frequency,
-        uart_product_64(
-        16 * ((uint64_t)(prescaler_division_factor.is_some ? prescaler_division_factor.value
-        : 0) + 1), (uint64_t)factor));
+    uint32_t prescaler = prescaler_division_factor.is_some ? prescaler_division_factor.value : 0;
+    return uart_whole_quotient(frequency, uart_product_64(16 * ((uint64_t)prescaler + 1), factor),
+        quotient);
 }
 
 /*
@@ -1765,31 +654,25 @@ uart_other_factor(uint32_t frequency, uint32_t factor,
  *
  * Errors
  *
- * - NonInteger, with the arguments, if no whole divisor gives exactly this baud rate. At the
- *   usual clock that is the case for 110 baud.
- * - OutOfRange, with the divisor, if one does, but it does not fit into the divisor latch of 16
- *   bits.
+ * - U16550_FRAME_NON_INTEGER_DIVISOR, with the arguments, if no whole divisor gives exactly this
+ *   baud rate. At the usual clock that is the case for 110 baud.
+ * - U16550_FRAME_DIVISOR_OUT_OF_RANGE, with the divisor, if one does, but it does not fit into the
+ *   divisor latch of 16 bits.
  *
- * Proved: this value and no other has the property.
- * Proved: the divisor that gives exactly this baud rate, if it fits into the divisor latch;
- * an error with the divisor if it does not fit; an error with the arguments if no whole
- * divisor does.
+ * Proved: the divisor that gives exactly this baud rate, if it fits into the divisor latch; an
+ * error with the divisor if it does not fit; an error with the arguments if no whole divisor does.
  */
-static struct uart_u16_or_invalid_divisor_error
+static int
 uart_calc_divisor(uint32_t frequency, uint32_t baud_rate,
-    struct u16550_core_maybe_u32 prescaler_division_factor)
+    struct u16550_core_maybe_u32 prescaler_division_factor, uint16_t *divisor)
 {
-    struct u16550_core_maybe_u32 found =
-        uart_other_factor(frequency, baud_rate, prescaler_division_factor);
-    if (found.is_some) {
-        if (found.value <= UINT32_C(65535))
-            return uart_good_u16_or_invalid_divisor_error((uint16_t)found.value);
-        return uart_bad_u16_or_invalid_divisor_error(
-            uart_invalid_divisor_error_out_of_range(found.value));
-    }
-    return uart_bad_u16_or_invalid_divisor_error(
-        uart_invalid_divisor_error_non_integer(uart_make_non_integer_divisor_error(frequency,
-        baud_rate, prescaler_division_factor)));
+    uint32_t quotient;
+    if (!uart_divide_clock(frequency, baud_rate, prescaler_division_factor, &quotient))
+        return U16550_FRAME_NON_INTEGER_DIVISOR;
+    if (quotient > UINT32_C(65535))
+        return U16550_FRAME_DIVISOR_OUT_OF_RANGE;
+    *divisor = (uint16_t)quotient;
+    return U16550_OK;
 }
 
 /*
@@ -1797,105 +680,110 @@ uart_calc_divisor(uint32_t frequency, uint32_t baud_rate,
  *
  * Proved: the divisor of a configuration, or none if there is none or none can be computed.
  */
-static struct uart_maybe_u16 uart_configured_divisor(const struct u16550_core_driver *uart)
+static bool uart_configured_divisor(const struct u16550_core_driver *uart, uint16_t *divisor)
 {
     if (!uart_config_is_computable(&uart->config))
-        return uart_no_u16();
-    uint32_t baud_rate = uart_baud_rate_to_integer(uart->config.baud_rate);
-    struct uart_u16_or_invalid_divisor_error outcome =
-        uart_calc_divisor(uart->config.frequency, baud_rate,
-        uart->config.prescaler_division_factor);
-    if (outcome.error.kind != UART_INVALID_DIVISOR_ERROR_NONE)
-        return uart_no_u16();
-    return uart_some_u16(outcome.value);
+        return false;
+    uint32_t baud_rate = uart_baud_rate_bps(uart->config.baud_rate);
+    uint16_t found_divisor;
+    if (uart_calc_divisor(uart->config.frequency, baud_rate,
+        uart->config.prescaler_division_factor, &found_divisor) != U16550_OK) {
+        return false;
+    }
+    *divisor = found_divisor;
+    return true;
 }
 
 /*
  * Returns the code of this word length, in the low two bits.
  *
- * Proved: the two bits from the lowest on are the code of this word length.
+ * Proved: the field is the code of this word length.
  */
-static uint8_t uart_word_length_to_raw_bits(uint8_t word_length)
+static uint8_t uart_word_length_code(uint8_t word_length)
 {
     switch (word_length) {
     case U16550_CORE_WORD_LENGTH_FIVE_BITS:
-        return 0;
+        return 0x00;
     case U16550_CORE_WORD_LENGTH_SIX_BITS:
-        return 1;
+        return 0x01;
     case U16550_CORE_WORD_LENGTH_SEVEN_BITS:
-        return 2;
+        return 0x02;
     case U16550_CORE_WORD_LENGTH_EIGHT_BITS:
     default:
-        return 3;
+        return 0x03;
     }
 }
 
 /*
  * Returns the register with this word length. No other bit changes.
  *
- * Proved: the two bits from the lowest on are the code of this word length.
- * Proved: the eight bits are the same in both values, except those of a field.
+ * Proved: the field is the code of this word length.
+ * Proved: no other bit changes.
  */
 static inline uint8_t uart_lcr_set_word_length(uint8_t lcr, uint8_t length)
 {
-    return (lcr & 252) | uart_word_length_to_raw_bits(length);
+    return (lcr & (uint8_t)~U16550_LCR_WORD_LENGTH) | uart_word_length_code(length);
 }
 
 /*
  * Returns the code of this parity, in the low three bits.
  *
- * Proved: the three bits from the lowest on are a code of this parity.
+ * Proved: the field is a code of this parity.
  */
-static uint8_t uart_parity_to_raw_bits(uint8_t parity)
+static uint8_t uart_parity_code(uint8_t parity)
 {
     switch (parity) {
-    case U16550_CORE_PARITY_DISABLED:
-        return 0;
-    case U16550_CORE_PARITY_ODD:
-        return 1;
-    case U16550_CORE_PARITY_EVEN:
-        return 3;
-    case U16550_CORE_PARITY_FORCED1:
-        return 5;
-    case U16550_CORE_PARITY_FORCED0:
+    case U16550_PARITY_NONE:
+        return 0x00;
+    case U16550_PARITY_ODD:
+        return 0x01;
+    case U16550_PARITY_EVEN:
+        return 0x03;
+    case U16550_PARITY_FORCED_1:
+        return 0x05;
+    case U16550_PARITY_FORCED_0:
     default:
-        return 7;
+        return 0x07;
     }
 }
 
 /*
  * Returns the register with this parity. No other bit changes.
  *
- * Proved: the three bits from the lowest on are a code of this parity.
- * Proved: the eight bits are the same in both values, except those of a field.
+ * Proved: the field is a code of this parity.
+ * Proved: no other bit changes.
  */
 static inline uint8_t uart_lcr_set_parity(uint8_t lcr, uint8_t parity)
 {
-    return (lcr & 199) | (uint8_t)(uart_parity_to_raw_bits(parity) << 3);
+    return (lcr & (uint8_t)~U16550_LCR_PARITY) | (uint8_t)(uart_parity_code(parity) << 3);
 }
 
 /* Returns LCR for a configuration. */
-static inline uint8_t uart_frame_of(const struct u16550_core_config *config)
+static inline uint8_t uart_lcr_of_config(const struct u16550_core_config *config)
 {
-    uint8_t lcr_set_word_length = uart_lcr_set_word_length(0, config->data_bits);
-    uint8_t frame = uart_lcr_set_parity(lcr_set_word_length, config->parity);
+    uint8_t lcr = uart_lcr_set_word_length(0, config->data_bits);
+    uint8_t frame = uart_lcr_set_parity(lcr, config->parity);
     if (config->extra_stop_bits)
         frame |= U16550_LCR_MORE_STOP_BITS;
     return frame;
 }
 
 /*
- * Checks the frame. A break is no part of it: set_break does not store one.
+ * Checks the frame. A break is no part of it: u16550_set_break does not store one.
  *
  * Proved: LCR shows this frame, with or without a break.
  */
-static inline struct uart_configuration_error
-uart_check_frame(struct u16550_core_driver *uart, uint8_t expected)
+static int
+uart_check_frame(struct u16550_core_driver *uart, uint8_t expected,
+    struct u16550_difference *difference)
 {
-    uint8_t lcr = uart_lcr(uart);
-    if ((lcr & (uint8_t)~U16550_LCR_SET_BREAK) != expected)
-        return uart_configuration_error_line_control(expected, lcr);
-    return uart_configuration_error_none();
+    uint8_t shown = uart_lcr(uart);
+    if ((shown & (uint8_t)~U16550_LCR_SET_BREAK) != expected) {
+        difference->expected = expected;
+        difference->shown = shown;
+        return U16550_CONFIGURATION_LINE_CONTROL;
+    }
+    return U16550_OK;
 }
 
 /*
@@ -1903,13 +791,17 @@ uart_check_frame(struct u16550_core_driver *uart, uint8_t expected)
  *
  * Proved: MCR shows these outputs.
  */
-static inline struct uart_configuration_error
-uart_check_outputs(struct u16550_core_driver *uart, uint8_t expected)
+static int
+uart_check_outputs(struct u16550_core_driver *uart, uint8_t expected,
+    struct u16550_difference *difference)
 {
-    uint8_t mcr = uart_mcr(uart);
-    if (mcr != expected)
-        return uart_configuration_error_modem_control(expected, mcr);
-    return uart_configuration_error_none();
+    uint8_t shown = uart_mcr(uart);
+    if (shown != expected) {
+        difference->expected = expected;
+        difference->shown = shown;
+        return U16550_CONFIGURATION_MODEM_CONTROL;
+    }
+    return U16550_OK;
 }
 
 /* Reads and returns the interrupt enable register (IER). Reading it changes nothing. */
@@ -1923,13 +815,17 @@ static inline uint8_t uart_ier(struct u16550_core_driver *uart)
  *
  * Proved: IER shows these interrupts.
  */
-static inline struct uart_configuration_error
-uart_check_interrupts(struct u16550_core_driver *uart, uint8_t expected)
+static int
+uart_check_interrupts(struct u16550_core_driver *uart, uint8_t expected,
+    struct u16550_difference *difference)
 {
-    uint8_t ier = uart_ier(uart);
-    if (ier != expected)
-        return uart_configuration_error_interrupts(expected, ier);
-    return uart_configuration_error_none();
+    uint8_t shown = uart_ier(uart);
+    if (shown != expected) {
+        difference->expected = expected;
+        difference->shown = shown;
+        return U16550_CONFIGURATION_INTERRUPTS;
+    }
+    return U16550_OK;
 }
 
 /*
@@ -1937,40 +833,47 @@ uart_check_interrupts(struct u16550_core_driver *uart, uint8_t expected)
  *
  * Proved: LCR is written with this value, and shows it.
  */
-static inline struct uart_configuration_error
-uart_keep_line(struct u16550_core_driver *uart, uint8_t expected)
+static int
+uart_keep_line(struct u16550_core_driver *uart, uint8_t expected,
+    struct u16550_difference *difference)
 {
     uart_write_register(uart, UART_LCR, expected);
-    uint8_t lcr = uart_lcr(uart);
-    if (lcr != expected)
-        return uart_configuration_error_line_control(expected, lcr);
-    return uart_configuration_error_none();
+    uint8_t shown = uart_lcr(uart);
+    if (shown != expected) {
+        difference->expected = expected;
+        difference->shown = shown;
+        return U16550_CONFIGURATION_LINE_CONTROL;
+    }
+    return U16550_OK;
 }
 
 /*
  * Checks the divisor latch, and leaves it closed.
  *
- * Proved: LCR is read, and then the latch opened and read. If it was not opened, it is not
- * read.
+ * Proved: LCR is read, and then the latch opened and read. If it was not opened, it is not read.
  */
-static struct uart_configuration_error
-uart_check_divisor(struct u16550_core_driver *uart, uint16_t expected)
+static int
+uart_check_divisor(struct u16550_core_driver *uart, uint16_t expected,
+    struct u16550_difference *difference)
 {
     uint8_t lcr = uart_lcr(uart);
-    struct uart_configuration_error error = uart_keep_line(uart, lcr | U16550_LCR_DLAB);
-    if (error.kind != UART_CONFIGURATION_ERROR_NONE) {
+    int status = uart_keep_line(uart, lcr | U16550_LCR_DLAB, difference);
+    if (status != U16550_OK) {
         uart_write_register(uart, UART_LCR, lcr);
-        return error;
+        return status;
     }
-    uint8_t dll = uart_read_register(uart, UART_DATA);
-    uint8_t dlm = uart_read_register(uart, UART_IER);
-    struct uart_configuration_error error2 = uart_keep_line(uart, lcr);
-    if (error2.kind != UART_CONFIGURATION_ERROR_NONE)
-        return error2;
-    uint16_t shown = (uint16_t)((uint16_t)(256 * (uint16_t)dlm) + (uint16_t)dll);
-    if (shown != expected)
-        return uart_configuration_error_divisor(expected, shown);
-    return uart_configuration_error_none();
+    uint8_t dll = uart_read_register(uart, UART_DLL);
+    uint8_t dlm = uart_read_register(uart, UART_DLM);
+    status = uart_keep_line(uart, lcr, difference);
+    if (status != U16550_OK)
+        return status;
+    uint16_t shown = (uint16_t)(((uint16_t)dlm << 8) | dll);
+    if (shown != expected) {
+        difference->expected = expected;
+        difference->shown = shown;
+        return U16550_CONFIGURATION_DIVISOR;
+    }
+    return U16550_OK;
 }
 
 /*
@@ -1978,41 +881,45 @@ uart_check_divisor(struct u16550_core_driver *uart, uint16_t expected)
  *
  * Proved: ISR shows that the FIFOs are on exactly if the driver takes them to be on.
  */
-static struct uart_configuration_error
-uart_check_fifos(struct u16550_core_driver *uart, uint8_t interrupts)
+static int
+uart_check_fifos(struct u16550_core_driver *uart, uint8_t interrupts,
+    struct u16550_difference *difference)
 {
-    bool shown = uart->fifo_enabled;
+    bool expected = uart->fifo_enabled;
     uart_write_register(uart, UART_IER, 0);
-    bool is_so = uart_isr_fifo_enabled(uart_isr(uart));
+    bool shown = uart_isr_fifo_enabled(uart_isr(uart));
     uart_write_register(uart, UART_IER, interrupts);
-    if (is_so != shown)
-        return uart_configuration_error_fifos(shown, is_so);
-    return uart_configuration_error_none();
+    if (shown != expected) {
+        difference->expected = expected;
+        difference->shown = shown;
+        return U16550_CONFIGURATION_FIFOS;
+    }
+    return U16550_OK;
 }
 
 /*
  * Checks the registers in turn.
  *
- * Proved: the registers in turn. What is only read comes first, so that a fault there is
- * found before anything is written.
+ * Proved: the registers in turn. What is only read comes first, so that a fault there is found
+ * before anything is written.
  */
-static struct uart_configuration_error
+static int
 uart_check_registers(struct u16550_core_driver *uart, uint8_t frame, uint8_t outputs,
-    uint8_t interrupts, uint16_t divisor)
+    uint8_t interrupts, uint16_t divisor, struct u16550_difference *difference)
 {
-    struct uart_configuration_error error = uart_check_frame(uart, frame);
-    if (error.kind != UART_CONFIGURATION_ERROR_NONE)
-        return error;
-    struct uart_configuration_error error2 = uart_check_outputs(uart, outputs);
-    if (error2.kind != UART_CONFIGURATION_ERROR_NONE)
-        return error2;
-    struct uart_configuration_error error3 = uart_check_interrupts(uart, interrupts);
-    if (error3.kind != UART_CONFIGURATION_ERROR_NONE)
-        return error3;
-    struct uart_configuration_error error4 = uart_check_divisor(uart, divisor);
-    if (error4.kind != UART_CONFIGURATION_ERROR_NONE)
-        return error4;
-    return uart_check_fifos(uart, interrupts);
+    int status = uart_check_frame(uart, frame, difference);
+    if (status != U16550_OK)
+        return status;
+    status = uart_check_outputs(uart, outputs, difference);
+    if (status != U16550_OK)
+        return status;
+    status = uart_check_interrupts(uart, interrupts, difference);
+    if (status != U16550_OK)
+        return status;
+    status = uart_check_divisor(uart, divisor, difference);
+    if (status != U16550_OK)
+        return status;
+    return uart_check_fifos(uart, interrupts, difference);
 }
 
 /*
@@ -2020,85 +927,85 @@ uart_check_registers(struct u16550_core_driver *uart, uint8_t frame, uint8_t out
  * outputs to the modem and the interrupts, the divisor, and whether the FIFOs are on.
  *
  * What is expected is the configuration of the driver (config), these outputs, which after
- * init are MCR_READY, and the FIFOs as fifo_enabled says. LOOP_BACK is left out of
+ * u16550_init are U16550_MCR_READY, and the FIFOs as fifo_enabled says. LOOP_BACK is left out of
  * the outputs. A break may be on.
  *
- * Call it after init, init_with, set_frame or set_frame_when_idle on a chip that may
- * ignore a write: these calls do not read back what they wrote. A DesignWare UART ignores LCR
- * while it sends, receives, or has received data. After attach and restore the driver does
- * not know the divisor, so a difference does not tell much.
+ * Call it after u16550_init, u16550_init_with, u16550_set_frame or u16550_set_frame_when_idle on a
+ * chip that may ignore a write: these calls do not read back what they wrote. A DesignWare UART
+ * ignores LCR while it sends, receives, or has received data. After u16550_attach and
+ * u16550_restore the driver does not know the divisor, so a difference does not tell much.
  *
- * Does not wait: makes at most 13 accesses. To read the divisor it sets DLAB, as dll_dlm
- * does, but reads offset 0 only if LCR shows that DLAB is set. To read ISR it writes 0 to IER,
- * and writes the interrupts back: so no interrupt is acknowledged, and the interrupt output
- * falls and rises as in retrigger_interrupts. No received byte is read, and nothing that is
- * saved for lsr or msr changes.
+ * Does not wait: makes at most 13 accesses. To read the divisor it sets DLAB, as u16550_dll_dlm
+ * does, but reads offset 0 only if LCR shows that DLAB is set. To read ISR it writes 0 to IER, and
+ * writes the interrupts back: so no interrupt is acknowledged, and the interrupt output falls and
+ * rises as in u16550_retrigger_interrupts. No received byte is read, and nothing that is saved for
+ * u16550_lsr or u16550_msr changes.
  *
  * Errors
  *
  * The first difference, in this order:
  *
- * - NoDivisor if the configuration has no divisor, or is not computable
- *   (Config_is_computable). No access was made.
- * - LineControl if LCR shows another frame, or DLAB. LCR alone was read.
- * - ModemControl if MCR shows other outputs, or loopback. Nothing was written.
- * - Interrupts if IER shows other interrupts. Nothing was written.
- * - LineControl if LCR does not show DLAB after that was set, and then LCR was written as it
- *   was before; or if LCR does not show that DLAB was cleared again.
- * - Divisor if the divisor latch shows another divisor. DLAB is clear again.
- * - Fifos if ISR shows FIFOs that are on where the driver takes them to be off, or the other
- *   way round.
+ * - U16550_CONFIGURATION_NO_DIVISOR if the configuration has no divisor, or is not computable
+ *   (uart_config_is_computable). No access was made.
+ * - U16550_CONFIGURATION_LINE_CONTROL if LCR shows another frame, or DLAB. LCR alone was read.
+ * - U16550_CONFIGURATION_MODEM_CONTROL if MCR shows other outputs, or loopback. Nothing was
+ *   written.
+ * - U16550_CONFIGURATION_INTERRUPTS if IER shows other interrupts. Nothing was written.
+ * - U16550_CONFIGURATION_LINE_CONTROL if LCR does not show DLAB after that was set, and then LCR
+ *   was written as it was before; or if LCR does not show that DLAB was cleared again.
+ * - U16550_CONFIGURATION_DIVISOR if the divisor latch shows another divisor. DLAB is clear again.
+ * - U16550_CONFIGURATION_FIFOS if ISR shows FIFOs that are on where the driver takes them to be
+ *   off, or the other way round.
  *
- * Proved: the registers show the configuration and these outputs, without loopback; or one
- * does not, and the error has what was asked for and what it shows; or the configuration has
- * no divisor, and no access was made.
+ * Proved: the registers show the configuration and these outputs, without loopback; or one does
+ * not, and the error has what was asked for and what it shows; or the configuration has no
+ * divisor, and no access was made.
  */
-static inline struct uart_configuration_error
-uart_check_configured(struct u16550_core_driver *uart, uint8_t outputs)
+static inline int
+uart_check_configured(struct u16550_core_driver *uart, uint8_t outputs,
+    struct u16550_difference *difference)
 {
-    struct uart_maybe_u16 found = uart_configured_divisor(uart);
-    if (!found.is_some)
-        return uart_configuration_error_no_divisor();
-    uint8_t frame = uart_frame_of(&uart->config);
+    uint16_t divisor;
+    if (!uart_configured_divisor(uart, &divisor))
+        return U16550_CONFIGURATION_NO_DIVISOR;
+    uint8_t frame = uart_lcr_of_config(&uart->config);
     return uart_check_registers(uart, frame, outputs & (uint8_t)~U16550_MCR_LOOP_BACK,
-        uart->config.interrupts, found.value);
+        uart->config.interrupts, divisor, difference);
 }
 
 /* Reads MSR, and saves the changes that the read clears in the chip. */
 static inline uint8_t uart_read_msr(struct u16550_core_driver *uart)
 {
     uint8_t msr = uart_device_read(&uart->backend, UART_MSR);
-    uart->saved_msr |= msr & (U16550_MSR_DELTA_CTS | U16550_MSR_DELTA_DSR |
-        U16550_MSR_TRAILING_EDGE_RI | U16550_MSR_DELTA_CD);
+    uart->saved_msr |= msr & U16550_MSR_CHANGES;
     return msr;
 }
 
 /*
  * Checks whether a remote is present and ready to receive: whether MSR shows DSR and CTS.
  *
- * Does not wait: reads MSR once. The changes that this clears are saved for the next msr.
- * Many cables never assert DSR or CTS, so sending may work even if this call fails. Call it
- * again after a modem status interrupt.
+ * Does not wait: reads MSR once. The changes that this clears are saved for the next u16550_msr.
+ * Many cables never assert DSR or CTS, so sending may work even if this call fails. Call it again
+ * after a modem status interrupt.
  *
  * Errors
  *
- * - NoRemoteConnectedNoDSR if DSR is clear.
- * - RemoteNotClearToSend if DSR is set and CTS is clear.
+ * - U16550_REMOTE_NO_DSR if DSR is clear.
+ * - U16550_REMOTE_NOT_CLEAR_TO_SEND if DSR is set and CTS is clear.
  *
- * NoRemoteConnectedNoCD is never returned.
+ * U16550_REMOTE_NO_CD is never returned.
  *
- * Proved: one read of MSR, which shows DSR and CTS; or which does not show the one that the
- * error names.
+ * Proved: one read of MSR, which shows DSR and CTS; or which does not show the one that the error
+ * names.
  */
-static inline enum uart_remote_ready_to_receive_error
-uart_check_connected(struct u16550_core_driver *uart)
+static inline int uart_check_connected(struct u16550_core_driver *uart)
 {
     uint8_t msr = uart_read_msr(uart);
     if ((msr & U16550_MSR_DSR) == 0)
-        return UART_REMOTE_READY_TO_RECEIVE_ERROR_NO_REMOTE_CONNECTED_NO_DSR;
+        return U16550_REMOTE_NO_DSR;
     if ((msr & U16550_MSR_CTS) == 0)
-        return UART_REMOTE_READY_TO_RECEIVE_ERROR_REMOTE_NOT_CLEAR_TO_SEND;
-    return UART_REMOTE_READY_TO_RECEIVE_ERROR_NONE;
+        return U16550_REMOTE_NOT_CLEAR_TO_SEND;
+    return U16550_OK;
 }
 
 /*
@@ -2113,23 +1020,21 @@ static inline bool uart_keeps(struct u16550_core_driver *uart, uint8_t pattern)
 }
 
 /*
- * Proved: the scratch register keeps both patterns; or it does not keep the first; or it
- * keeps the first and not the second.
+ * Proved: the scratch register keeps both patterns; or it does not keep the first; or it keeps the
+ * first and not the second.
  */
 static inline bool uart_keeps_patterns(struct u16550_core_driver *uart)
 {
-    if (!uart_keeps(uart, 66))
-        return false;
-    return uart_keeps(uart, 115);
+    return uart_keeps(uart, UART_FIRST_PATTERN) && uart_keeps(uart, UART_SECOND_PATTERN);
 }
 
 /*
- * Returns whether a device is present: whether its scratch register (SPR) keeps what is
- * written to it.
+ * Returns whether a device is present: whether its scratch register (SPR) keeps what is written to
+ * it.
  *
- * Reads SPR, writes a pattern and reads it back, tries a second pattern if the first was kept,
- * and restores SPR. Nothing else changes in the chip. Does not wait: makes 4 or 6 accesses.
- * init makes the same check.
+ * Reads SPR, writes a pattern and reads it back, tries a second pattern if the first was kept, and
+ * restores SPR. Nothing else changes in the chip. Does not wait: makes 4 or 6 accesses.
+ * u16550_init makes the same check.
  *
  * Proved: the scratch register is read, tested with the patterns, and restored.
  */
@@ -2142,12 +1047,13 @@ static inline bool uart_check_present(struct u16550_core_driver *uart)
 }
 
 /*
- * Returns the configuration of the last init, with the interrupts as they were enabled and
- * disabled since, and with the clock, the baud rate and the frame of the last set_frame
+ * Returns the configuration of the last u16550_init, with the interrupts as they were enabled and
+ * disabled since, and with the clock, the baud rate and the frame of the last u16550_set_frame
  * since. Makes no access.
  *
- * If that init failed with InvalidBaudRate, it is the configuration before it. If it
- * failed with DeviceNotPresent or Stalled, it is the new one.
+ * If that u16550_init failed with a number that tells of the baud rate, it is the configuration
+ * before it. If it failed with U16550_INIT_DEVICE_NOT_PRESENT or U16550_INIT_STALLED, it is the
+ * new one.
  */
 static inline const struct u16550_core_config *uart_config(const struct u16550_core_driver *uart)
 {
@@ -2158,8 +1064,7 @@ static inline const struct u16550_core_config *uart_config(const struct u16550_c
 static inline uint8_t uart_read_lsr(struct u16550_core_driver *uart)
 {
     uint8_t lsr = uart_device_read(&uart->backend, UART_LSR);
-    uart->saved_lsr |= lsr & (U16550_LSR_OVERRUN_ERROR | U16550_LSR_PARITY_ERROR |
-        U16550_LSR_FRAMING_ERROR | U16550_LSR_BREAK_INTERRUPT);
+    uart->saved_lsr |= lsr & U16550_LSR_LINE_ERRORS;
     return lsr;
 }
 
@@ -2170,29 +1075,19 @@ static inline uint8_t uart_spr(struct u16550_core_driver *uart)
 }
 
 /*
- * Reads the divisor latch and then IER, ISR, LCR, MCR, LSR, MSR and SPR, and returns them. It
- * is meant for debugging.
+ * Reads the divisor latch and then IER, ISR, LCR, MCR, LSR, MSR and SPR, and returns them. It is
+ * meant for debugging.
  *
  * LSR and MSR are returned joined with the saved bits, which stay saved. The read of ISR
- * acknowledges a THR_EMPTY interrupt, and DLAB is set for a moment, as by dll_dlm. Does
- * not wait: makes 12 accesses.
+ * acknowledges a THR_EMPTY interrupt, and DLAB is set for a moment, as by u16550_dll_dlm. Does not
+ * wait: makes 12 accesses.
  */
 static struct u16550_dump uart_config_register_dump(struct u16550_core_driver *uart)
 {
-    struct u16550_dump config_register_dump;
-    config_register_dump.ier = 0;
-    config_register_dump.isr = 0;
-    config_register_dump.lcr = 0;
-    config_register_dump.mcr = 0;
-    config_register_dump.lsr = 0;
-    config_register_dump.msr = 0;
-    config_register_dump.spr = 0;
-    config_register_dump.dll = 0;
-    config_register_dump.dlm = 0;
-    struct u16550_dump dump = config_register_dump;
-    struct uart_pair_of_u8 pair = uart_dll_dlm(uart);
-    dump.dll = pair.first;
-    dump.dlm = pair.second;
+    struct uart_latch latch = uart_dll_dlm(uart);
+    struct u16550_dump dump;
+    dump.dll = latch.dll;
+    dump.dlm = latch.dlm;
     dump.ier = uart_ier(uart);
     dump.isr = uart_isr(uart);
     dump.lcr = uart_lcr(uart);
@@ -2217,8 +1112,8 @@ static inline void uart_store_interrupts(struct u16550_core_driver *uart, uint8_
 }
 
 /*
- * Disables these interrupts and leaves the others: reads IER, removes them, stores the result
- * in the configuration, and writes it.
+ * Disables these interrupts and leaves the others: reads IER, removes them, stores the result in
+ * the configuration, and writes it.
  *
  * Proved: IER is read; what it shows, without these bits, is stored in the configuration and
  * written.
@@ -2232,13 +1127,13 @@ static inline void uart_disable_interrupts(struct u16550_core_driver *uart, uint
  * Polls LSR until it shows these bits, or until the limit. Each wait has a loop of its own over
  * the limit, so the polls that count are those in a row: progress begins a new count.
  *
- * Proved: a wait for these bits of LSR: fewer reads without them than the limit and then one
- * with them; or as many without them.
+ * Proved: a wait for these bits of LSR: fewer reads without them than the limit and then one with
+ * them; or as many without them.
  */
 static inline bool uart_wait_for(struct u16550_core_driver *uart, uint8_t bits)
 {
-    uint64_t number = uart->spin_limit;
-    for (uint64_t turn = 0; turn < number; turn++) {
+    uint64_t spin_limit = uart->spin_limit;
+    for (uint64_t turn = 0; turn < spin_limit; turn++) {
         if ((uart_read_lsr(uart) & bits) == bits)
             return true;
     }
@@ -2247,114 +1142,127 @@ static inline bool uart_wait_for(struct u16550_core_driver *uart, uint8_t bits)
 
 /*
  * Returns the trigger level for FIFOs that are on: the configured one, or one byte if none is
- * configured, as on a port that was taken by attach.
+ * configured, as on a port that was taken by u16550_attach.
  */
 static inline uint8_t uart_fifo_level(const struct u16550_core_driver *uart)
 {
-    struct u16550_core_maybe_fifo_trigger_level found = uart->config.fifo_trigger_level;
-    return found.is_some ? found.value : (uint8_t)U16550_CORE_FIFO_TRIGGER_LEVEL_ONE;
+    struct u16550_core_maybe_fifo_trigger_level fifo_trigger_level =
+        uart->config.fifo_trigger_level;
+    return fifo_trigger_level.is_some ? fifo_trigger_level.value
+        : (uint8_t)U16550_CORE_FIFO_TRIGGER_LEVEL_ONE;
 }
 
 /*
  * Returns the code of this trigger level, in the low two bits.
  *
- * Proved: the two bits from the lowest on are the code of this trigger level.
+ * Proved: the field is the code of this trigger level.
  */
-static uint8_t uart_fifo_trigger_level_to_raw_bits(uint8_t fifo_trigger_level)
+static uint8_t uart_fifo_trigger_level_code(uint8_t fifo_trigger_level)
 {
     switch (fifo_trigger_level) {
     case U16550_CORE_FIFO_TRIGGER_LEVEL_ONE:
-        return 0;
+        return 0x00;
     case U16550_CORE_FIFO_TRIGGER_LEVEL_FOUR:
-        return 1;
+        return 0x01;
     case U16550_CORE_FIFO_TRIGGER_LEVEL_EIGHT:
-        return 2;
+        return 0x02;
     case U16550_CORE_FIFO_TRIGGER_LEVEL_FOURTEEN:
     default:
-        return 3;
+        return 0x03;
     }
 }
 
 /*
  * Returns the register with this trigger level. No other bit changes.
  *
- * Proved: the two bits from the lowest on are the code of this trigger level.
- * Proved: the eight bits are the same in both values, except those of a field.
+ * Proved: the field is the code of this trigger level.
+ * Proved: no other bit changes.
  */
 static inline uint8_t uart_fcr_set_fifo_trigger_level(uint8_t fcr, uint8_t level)
 {
-    return (fcr & 63) | (uint8_t)(uart_fifo_trigger_level_to_raw_bits(level) << 6);
+    return (fcr & (uint8_t)~U16550_FCR_RX_FIFO_TRIGGER_LEVEL) |
+        (uint8_t)(uart_fifo_trigger_level_code(level) << 6);
 }
 
 /*
  * Returns FCR for FIFOs that are on and stay on. Without the reset bits the bytes in them stay.
  */
-static inline uint8_t uart_level_control_of(uint8_t level)
+static inline uint8_t uart_fcr_of_running_fifos(uint8_t level)
 {
     return uart_fcr_set_fifo_trigger_level(U16550_FCR_FIFO_ENABLE, level);
 }
 
+/* Returns whether this is what a 16750 shows while its FIFOs are on and hold 64. */
+static inline bool uart_is_64_shown(uint8_t isr)
+{
+    return uart_isr_fifo_enabled(isr) && (isr & U16550_ISR_FIFO_64_ENABLED) != 0 &&
+        (isr & U16550_ISR_DMA_RX_END) == 0;
+}
+
 /*
- * Turns on the FIFOs of 64 characters of a 16750, which has FIFOs of 16 after power-on.
- * Returns whether the FIFOs hold 64 then. It does not set the size of the driver:
- * set_fifo_size does, as in the example.
+ * Turns on the FIFOs of 64 characters of a 16750, which has FIFOs of 16 after power-on. Returns
+ * whether the FIFOs hold 64 then. It does not set the size of the driver: u16550_set_fifo_size
+ * does, as in the example.
  *
- * Call it after init, and again after a reset of the chip. The answer is bit 5 of ISR after
- * a write of FCR without DLAB, as other calls make it. A chip that ends the mode there counts
- * as one of 16. On a chip that shows something else in this bit the answer is of no use.
+ * Call it after u16550_init, and again after a reset of the chip. The answer is whether ISR shows
+ * bits 5 to 7 set and bit 4 clear after a write of FCR without DLAB, as other calls make it. A
+ * chip that ends the mode there counts as one of 16, and so does a bus where nobody answers: FF
+ * and 7F are false, and 0 is U16550_FIFOS_STALLED. On a chip that shows something else in these
+ * bits the answer is of no use.
  *
- * Nothing goes out on the line, but for what is in the transmitter already: the call waits
- * until it is empty, at most spin_limit polls. A chip that switches empties its FIFOs, so
- * bytes that were received and not taken are lost: take them first. A chip that does not
- * switch loses nothing.
+ * Nothing goes out on the line, but for what is in the transmitter already: the call waits until
+ * it is empty, at most spin_limit polls. A chip that switches empties its FIFOs, so bytes that
+ * were received and not taken are lost: take them first. A chip that does not switch loses
+ * nothing.
  *
  * Reads LCR and IER. After the wait it disables all interrupts, writes FCR while DLAB is set,
- * restores LCR, writes FCR once more, reads ISR, and restores IER. While DLAB is set, offsets
- * 0 and 1 are the latch, as in dll_dlm, so nothing else may access the chip. The level of
- * the receiver FIFO is that of the configuration, or one byte if none is configured. Error
- * bits are saved for the next lsr. If THR_EMPTY is enabled, the chip raises that interrupt
- * again.
+ * restores LCR, writes FCR once more, reads ISR, and restores IER. While DLAB is set, offsets 0
+ * and 1 are the latch, as in u16550_dll_dlm, so nothing else may access the chip. The level of the
+ * receiver FIFO is that of the configuration, or one byte if none is configured. Error bits are
+ * saved for the next u16550_lsr. If THR_EMPTY is enabled, the chip raises that interrupt again.
  *
  * Errors
  *
- * - FifosOff if the FIFOs are off (fifo_enabled). No access was made.
- * - Stalled if the transmitter was not empty after spin_limit polls. Nothing was written.
+ * - U16550_FIFOS_OFF if the FIFOs are off (fifo_enabled). No access was made.
+ * - U16550_FIFOS_STALLED if the transmitter was not empty after spin_limit polls. Nothing was
+ *   written.
  *
- * Proved: nothing is done if the FIFOs are off. Else LCR and IER are read, and there is a
- * wait for an empty transmitter. If it reaches the limit, nothing is written, and the result
- * is a stall; else FIFOs of 64 are asked for, and the result is whether ISR shows them.
+ * Proved: nothing is done if the FIFOs are off. Else LCR and IER are read, and there is a wait for
+ * an empty transmitter. If it reaches the limit, nothing is written, and the result is a stall;
+ * else FIFOs of 64 are asked for, and the result is whether ISR shows them.
  */
-static struct uart_bool_or_fifo_size_error
-uart_enable_64_byte_fifos(struct u16550_core_driver *uart)
+static int uart_enable_64_byte_fifos(struct u16550_core_driver *uart, bool *enabled)
 {
     if (!uart->fifo_enabled)
-        return uart_bad_bool_or_fifo_size_error(uart_fifo_size_error_fifos_off());
+        return U16550_FIFOS_OFF;
     uint8_t lcr = uart_lcr(uart);
     uint8_t ier = uart_ier(uart);
     if (!uart_wait_for(uart, U16550_LSR_TRANSMITTER_EMPTY))
-        return uart_bad_bool_or_fifo_size_error(uart_fifo_size_error_stalled());
-    uint8_t control = uart_level_control_of(uart_fifo_level(uart));
+        return U16550_FIFOS_STALLED;
+    uint8_t control = uart_fcr_of_running_fifos(uart_fifo_level(uart));
     uart_write_register(uart, UART_IER, 0);
     uart_write_register(uart, UART_LCR,
         (lcr & (uint8_t)~U16550_LCR_MORE_STOP_BITS) | U16550_LCR_DLAB);
     uart_write_register(uart, UART_FCR, control | U16550_FCR_FIFO_64_ENABLE);
     uart_write_register(uart, UART_LCR, lcr);
     uart_write_register(uart, UART_FCR, control);
-    bool on = (uart_isr(uart) & U16550_ISR_FIFO_64_ENABLED) != 0;
+    bool on = uart_is_64_shown(uart_isr(uart));
     uart_write_register(uart, UART_IER, ier);
-    return uart_good_bool_or_fifo_size_error(on);
+    *enabled = on;
+    return U16550_OK;
 }
 
 /*
- * Enables these interrupts in addition to those that are enabled: reads IER, adds them, stores
- * the result in the configuration, and writes it.
+ * Enables these interrupts in addition to those that are enabled: reads IER, adds them, stores the
+ * result in the configuration, and writes it.
  *
- * Bits that the chip does not keep read as clear, so they vanish from config().interrupts at
- * the next such call. Not every device raises an interrupt if THR_EMPTY is enabled while the
- * transmitter is already empty: send the first bytes directly, and the rest on interrupts.
+ * Bits that the chip does not keep read as clear, so they vanish from the interrupts of the
+ * configuration at the next such call. Not every device raises an interrupt if THR_EMPTY is
+ * enabled while the transmitter is already empty: send the first bytes directly, and the rest on
+ * interrupts.
  *
- * Proved: IER is read; what it shows, with these bits added, is stored in the configuration
- * and written.
+ * Proved: IER is read; what it shows, with these bits added, is stored in the configuration and
+ * written.
  */
 static inline void uart_enable_interrupts(struct u16550_core_driver *uart, uint8_t interrupts)
 {
@@ -2362,9 +1270,10 @@ static inline void uart_enable_interrupts(struct u16550_core_driver *uart, uint8
 }
 
 /*
- * Returns whether the chip has a FIFO that is on, as the last call that sets the FIFO up read
- * it from ISR: init, init_with, attach, test_loopback, find_fifo_size or restore.
- * After a quiesce that disables the FIFOs it is off. Makes no access.
+ * Returns whether the chip has a FIFO that is on, as the last call that sets the FIFO up read it
+ * from ISR: u16550_init, u16550_init_with, u16550_attach, u16550_test_loopback,
+ * u16550_find_fifo_size or u16550_restore. After a u16550_quiesce that disables the FIFOs it is
+ * off. Makes no access.
  *
  * A driver that was never initialised takes the FIFO to be on. If it is on, a send check is
  * followed by up to as many bytes as fifo_size says, else by one.
@@ -2375,7 +1284,7 @@ static inline bool uart_fifo_enabled(const struct u16550_core_driver *uart)
 }
 
 /*
- * Returns which size the FIFOs are taken to have: 16 characters, or what set_fifo_size set
+ * Returns which size the FIFOs are taken to have: 16 characters, or what u16550_set_fifo_size set
  * last. Makes no access.
  */
 static inline uint8_t uart_fifo_size(const struct u16550_core_driver *uart)
@@ -2384,16 +1293,16 @@ static inline uint8_t uart_fifo_size(const struct u16550_core_driver *uart)
 }
 
 /* Returns the trigger level for FIFOs that are on, and none for FIFOs that are off. */
-static inline struct u16550_core_maybe_fifo_trigger_level
-uart_level_of(const struct u16550_core_driver *uart, bool on)
+static inline bool uart_level_of(const struct u16550_core_driver *uart, bool on, uint8_t *level)
 {
-    if (on)
-        return uart_some_fifo_trigger_level(uart_fifo_level(uart));
-    return uart_no_fifo_trigger_level();
+    if (!on)
+        return false;
+    *level = uart_fifo_level(uart);
+    return true;
 }
 
 /* Returns FCR for a trigger level. */
-static inline uint8_t uart_fifo_control_of(struct u16550_core_maybe_fifo_trigger_level level)
+static inline uint8_t uart_fcr_of_level(struct u16550_core_maybe_fifo_trigger_level level)
 {
     uint8_t resets = U16550_FCR_RX_FIFO_RESET | U16550_FCR_TX_FIFO_RESET;
     if (level.is_some)
@@ -2404,13 +1313,13 @@ static inline uint8_t uart_fifo_control_of(struct u16550_core_maybe_fifo_trigger
 /*
  * Resets the FIFOs, enables them if there is a level, and returns whether they are on then.
  *
- * Proved: the FIFO step: FCR is written and, if a level is configured, ISR shows whether the
- * FIFO is on.
+ * Proved: the FIFO step: FCR is written and, if a level is configured, ISR shows whether the FIFO
+ * is on.
  */
 static inline bool
 uart_set_fifo(struct u16550_core_driver *uart, struct u16550_core_maybe_fifo_trigger_level level)
 {
-    uart_write_register(uart, UART_FCR, uart_fifo_control_of(level));
+    uart_write_register(uart, UART_FCR, uart_fcr_of_level(level));
     return level.is_some && uart_isr_fifo_enabled(uart_isr(uart));
 }
 
@@ -2418,8 +1327,8 @@ uart_set_fifo(struct u16550_core_driver *uart, struct u16550_core_maybe_fifo_tri
  * Reads the modem lines, and sets the device to loopback with interrupts off, and with FIFOs of
  * this level, if there is one.
  *
- * Proved: MSR is read, interrupts are switched off, loopback is switched on, and the FIFO
- * step is made with this level.
+ * Proved: MSR is read, interrupts are switched off, loopback is switched on, and the FIFO step is
+ * made with this level.
  */
 static inline uint8_t
 uart_enter_loopback(struct u16550_core_driver *uart,
@@ -2435,54 +1344,54 @@ uart_enter_loopback(struct u16550_core_driver *uart,
 /*
  * Checks whether a received byte is available: whether LSR shows DATA_READY.
  *
- * Does not wait: reads LSR once. The error bits that this clears are saved for the next lsr.
+ * Does not wait: reads LSR once. The error bits that this clears are saved for the next
+ * u16550_lsr.
  *
  * Errors
  *
- * ByteReceiveError if no byte is available.
+ * false if no byte is available.
  *
- * Proved: one read of LSR, which shows a received byte exactly if the result is Ok.
+ * Proved: one read of LSR, which shows a received byte exactly if the result is true.
  */
 static inline bool uart_ready_to_receive(struct u16550_core_driver *uart)
 {
-    if ((uart_read_lsr(uart) & U16550_LSR_DATA_READY) == 0)
-        return false;
-    return true;
+    return (uart_read_lsr(uart) & U16550_LSR_DATA_READY) != 0;
 }
 
 /*
  * Receives one byte if one is available: reads LSR, and if it shows DATA_READY, RBR.
  *
- * Does not wait. The error bits that the read of LSR clears are saved for the next lsr; they
- * belong to the byte that is then received, except for an overrun.
+ * Does not wait. The error bits that the read of LSR clears are saved for the next u16550_lsr;
+ * they belong to the byte that is then received, except for an overrun.
  *
  * Errors
  *
- * ByteReceiveError if no byte is available. RBR was not read then.
+ * false if no byte is available. RBR was not read then.
  *
- * Proved: LSR shows a received byte, which is read from DATA and returned; or LSR shows
- * none.
+ * Proved: LSR shows a received byte, which is read from DATA and returned; or LSR shows none.
  */
-static inline struct u16550_core_maybe_u8 uart_try_receive_byte(struct u16550_core_driver *uart)
+static inline bool uart_try_receive_byte(struct u16550_core_driver *uart, uint8_t *byte)
 {
     if (!uart_ready_to_receive(uart))
-        return uart_no_u8();
-    return uart_some_u8(uart_read_register(uart, UART_DATA));
+        return false;
+    *byte = uart_read_register(uart, UART_DATA);
+    return true;
 }
 
 /*
- * Discards received bytes until none is available: a byte from before the test would be taken
- * for the first that returns. Returns false after as many bytes as the spin limit, right after
- * the last of them. So with a limit of 1 one byte is too many, even if none is behind it.
+ * Discards received bytes until none is available: a byte from before the test would be taken for
+ * the first that returns. Returns false after as many bytes as the spin limit, right after the
+ * last of them. So with a limit of 1 one byte is too many, even if none is behind it.
  *
- * Proved: bytes that were received before the test are taken until none is available; or as
- * many as the limit were taken.
+ * Proved: bytes that were received before the test are taken until none is available; or as many
+ * as the limit were taken.
  */
-static inline bool uart_drain_received(struct u16550_core_driver *uart)
+static bool uart_drain_received(struct u16550_core_driver *uart)
 {
-    uint64_t number = uart->spin_limit;
-    for (uint64_t turn = 0; turn < number; turn++) {
-        if (!uart_try_receive_byte(uart).is_some)
+    uint64_t spin_limit = uart->spin_limit;
+    for (uint64_t turn = 0; turn < spin_limit; turn++) {
+        uint8_t byte;
+        if (!uart_try_receive_byte(uart, &byte))
             return true;
     }
     return false;
@@ -2494,15 +1403,11 @@ static inline void uart_write_byte(struct u16550_core_driver *uart, uint8_t byte
     uart_device_write(&uart->backend, UART_DATA, byte);
 }
 
-/*
- * Writes the test byte so many times, with no look between: what does not fit is lost.
- *
- * Proved: n lists of the language.
- */
+/* Writes the test byte so many times, with no look between: what does not fit is lost. */
 static inline void uart_flood(struct u16550_core_driver *uart, size_t count)
 {
     for (size_t turn = 0; turn < count; turn++)
-        uart_write_byte(uart, 66);
+        uart_write_byte(uart, UART_TEST_BYTE);
 }
 
 /*
@@ -2514,55 +1419,61 @@ static inline void uart_flood(struct u16550_core_driver *uart, size_t count)
  */
 static inline size_t uart_take_back(struct u16550_core_driver *uart)
 {
-    for (size_t count = 0; count < 257; count++) {
-        if (!uart_try_receive_byte(uart).is_some)
+    for (size_t count = 0; count < UART_FLOOD; count++) {
+        uint8_t byte;
+        if (!uart_try_receive_byte(uart, &byte))
             return count;
     }
-    return 257;
+    return UART_FLOOD;
 }
 
 /*
- * Returns the largest size of no more than so many characters, or None if there is none.
+ * Returns the largest size of no more than so many characters, or none if there is none.
  *
  * So a burst of the size that is returned is safe on a chip that holds so many.
  *
- * Proved: the largest size of no more than so many characters; none, if the smallest has
- * more.
+ * Proved: the largest size of no more than so many characters; none, if the smallest has more.
  */
-static struct uart_maybe_fifo_size uart_fifo_size_largest_up_to(size_t characters)
+static bool uart_fifo_size_up_to(size_t characters, uint8_t *size)
 {
     if (characters < 16)
-        return uart_no_fifo_size();
-    if (characters < 32)
-        return uart_some_fifo_size(U16550_CORE_FIFO_SIZE_SIXTEEN);
-    if (characters < 64)
-        return uart_some_fifo_size(U16550_CORE_FIFO_SIZE_THIRTY_TWO);
-    if (characters < 128)
-        return uart_some_fifo_size(U16550_CORE_FIFO_SIZE_SIXTY_FOUR);
-    if (characters < 256)
-        return uart_some_fifo_size(U16550_CORE_FIFO_SIZE_ONE_HUNDRED_TWENTY_EIGHT);
-    return uart_some_fifo_size(U16550_CORE_FIFO_SIZE_TWO_HUNDRED_FIFTY_SIX);
+        return false;
+    if (characters < 32) {
+        *size = U16550_CORE_FIFO_SIZE_SIXTEEN;
+        return true;
+    }
+    if (characters < 64) {
+        *size = U16550_CORE_FIFO_SIZE_THIRTY_TWO;
+        return true;
+    }
+    if (characters < 128) {
+        *size = U16550_CORE_FIFO_SIZE_SIXTY_FOUR;
+        return true;
+    }
+    if (characters < 256) {
+        *size = U16550_CORE_FIFO_SIZE_ONE_HUNDRED_TWENTY_EIGHT;
+        return true;
+    }
+    *size = U16550_CORE_FIFO_SIZE_TWO_HUNDRED_FIFTY_SIX;
+    return true;
 }
 
 /*
- * Floods the transmitter, and tells the size by what comes back, while the device is in
- * loopback.
+ * Floods the transmitter, and tells the size by what comes back, while the device is in loopback.
  *
- * Proved: bytes from before are taken, the transmitter is flooded, and, once it is empty,
- * what came back is counted; or one of the two waits reaches the limit.
+ * Proved: bytes from before are taken, the transmitter is flooded, and, once it is empty, what
+ * came back is counted; or one of the two waits reaches the limit.
  */
-static struct uart_fifo_size_or_fifo_size_error uart_find_size(struct u16550_core_driver *uart)
+static int uart_find_size(struct u16550_core_driver *uart, uint8_t *size)
 {
     if (!uart_drain_received(uart))
-        return uart_bad_fifo_size_or_fifo_size_error(uart_fifo_size_error_stalled());
-    uart_flood(uart, 257);
+        return U16550_FIFOS_STALLED;
+    uart_flood(uart, UART_FLOOD);
     if (!uart_wait_for(uart, U16550_LSR_TRANSMITTER_EMPTY))
-        return uart_bad_fifo_size_or_fifo_size_error(uart_fifo_size_error_stalled());
-    size_t returned = uart_take_back(uart);
-    struct uart_maybe_fifo_size found = uart_fifo_size_largest_up_to(returned);
-    if (found.is_some)
-        return uart_good_fifo_size_or_fifo_size_error(found.value);
-    return uart_bad_fifo_size_or_fifo_size_error(uart_fifo_size_error_too_few(returned));
+        return U16550_FIFOS_STALLED;
+    if (!uart_fifo_size_up_to(uart_take_back(uart), size))
+        return U16550_FIFOS_TOO_FEW;
+    return U16550_OK;
 }
 
 /*
@@ -2571,20 +1482,16 @@ static struct uart_fifo_size_or_fifo_size_error uart_find_size(struct u16550_cor
  *
  * Proved: the measure, and then the FIFO step, which discards what is left of it.
  */
-static inline struct uart_fifo_size_or_fifo_size_error
+static inline int
 uart_find_and_reset(struct u16550_core_driver *uart,
-    struct u16550_core_maybe_fifo_trigger_level level)
+    struct u16550_core_maybe_fifo_trigger_level level, uint8_t *size)
 {
-    struct uart_fifo_size_or_fifo_size_error found = uart_find_size(uart);
+    int status = uart_find_size(uart, size);
     uart->fifo_enabled = uart_set_fifo(uart, level);
-    return found;
+    return status;
 }
 
-/*
- * Reads a register, and saves none of its bits.
- *
- * Proved: a list of the language whose reads are not saved.
- */
+/* Reads a register, and saves none of its bits. */
 static inline uint8_t uart_read_plain(struct u16550_core_driver *uart, size_t offset)
 {
     return uart_device_read(&uart->backend, (uint8_t)offset);
@@ -2597,7 +1504,7 @@ static inline bool uart_msr_is_changed(uint8_t msr, uint8_t before, uint8_t line
 }
 
 /* Returns these bits if the condition holds, else none. */
-static inline uint8_t uart_flag(bool on, uint8_t bits)
+static inline uint8_t uart_bits_if(bool on, uint8_t bits)
 {
     return on ? bits : 0;
 }
@@ -2608,135 +1515,134 @@ static inline uint8_t uart_flag(bool on, uint8_t bits)
  */
 static uint8_t uart_msr_changes_since(uint8_t msr, uint8_t before)
 {
-    uint8_t ri = uart_flag(uart_msr_is_changed(msr, before, U16550_MSR_CTS), U16550_MSR_DELTA_CTS);
-    uint8_t cd = uart_flag(uart_msr_is_changed(msr, before, U16550_MSR_DSR), U16550_MSR_DELTA_DSR);
-    uint8_t flag =
-        uart_flag((before & U16550_MSR_RI) != 0 && (msr & U16550_MSR_RI) == 0,
+    uint8_t cts =
+        uart_bits_if(uart_msr_is_changed(msr, before, U16550_MSR_CTS), U16550_MSR_DELTA_CTS);
+    uint8_t dsr =
+        uart_bits_if(uart_msr_is_changed(msr, before, U16550_MSR_DSR), U16550_MSR_DELTA_DSR);
+    uint8_t ri =
+        uart_bits_if((before & U16550_MSR_RI) != 0 && (msr & U16550_MSR_RI) == 0,
         U16550_MSR_TRAILING_EDGE_RI);
-    return ri | cd |
-        (flag | uart_flag(uart_msr_is_changed(msr, before, U16550_MSR_CD), U16550_MSR_DELTA_CD));
+    return cts | dsr |
+        (ri | uart_bits_if(uart_msr_is_changed(msr, before, U16550_MSR_CD), U16550_MSR_DELTA_CD));
 }
 
 /*
  * Leaves loopback, restores MCR and IER, and saves the changes of the lines that are not due to
  * the test.
  *
- * Proved: loopback is left, MCR and IER are restored, changes of the lines are saved, and
- * the saved errors are those noted before.
+ * Proved: loopback is left, MCR and IER are restored, changes of the lines are saved, and the
+ * saved errors are those noted before.
  */
 static void
 uart_leave_loopback(struct u16550_core_driver *uart, uint8_t mcr, uint8_t ier, uint8_t before,
     uint8_t noted)
 {
     uart_write_register(uart, UART_MCR, mcr & (uint8_t)~U16550_MCR_OUT_2_INT_ENABLE);
-    uint8_t plain = uart_read_plain(uart, 6);
+    uint8_t now = uart_read_plain(uart, UART_MSR);
     uart_write_register(uart, UART_MCR, mcr);
     uart_write_register(uart, UART_IER, ier);
-    uint8_t msr_changes_since = uart_msr_changes_since(plain, before);
+    uint8_t msr_changes_since = uart_msr_changes_since(now, before);
     uart->saved_msr |= msr_changes_since;
     uart->saved_lsr = noted;
 }
 
 /*
- * Finds how many characters the FIFOs of the chip hold as they are set up now: the largest
- * FifoSize that is safe in set_fifo_size and send_burst. It does not set it.
+ * Finds how many characters the FIFOs of the chip hold as they are set up now: the largest size
+ * that is safe in u16550_set_fifo_size and u16550_send_burst. It does not set it.
  *
- * Sends 257 bytes in loopback without looking, and counts those that come back: they are as
- * many as the smaller of the two FIFOs holds, or few more. A count between two sizes gives the
- * lower one. Call it after init, on a chip that passed test_loopback, and keep the answer:
+ * Sends 257 bytes in loopback without looking, and counts those that come back: they are as many
+ * as the smaller of the two FIFOs holds, or few more. A count between two sizes gives the lower
+ * one. Call it after u16550_init, on a chip that passed u16550_test_loopback, and keep the answer:
  * it holds until something changes the mode of the FIFOs, as another driver or a reset.
  *
- * Nothing goes out on the line, but for what is in the transmitter already: the call waits
- * until it is empty. Then it takes as long as its bytes need at the baud rate that is set up,
- * for a FIFO of 256 about 268 ms at 9,600 baud and 22 ms at 115,200. What arrives on the line
- * meanwhile is lost, and so are bytes that were received before and not taken: take them
- * first. The divisor and the frame stay as they are.
+ * Nothing goes out on the line, but for what is in the transmitter already: the call waits until
+ * it is empty. Then it takes as long as its bytes need at the baud rate that is set up, for a FIFO
+ * of 256 about 268 ms at 9,600 baud and 22 ms at 115,200. What arrives on the line meanwhile is
+ * lost, and so are bytes that were received before and not taken: take them first. The divisor and
+ * the frame stay as they are.
  *
- * Waits at most spin_limit polls each time. The errors that are found in loopback are those
- * of its own bytes, the overrun among them, and are discarded; error bits that were saved
- * before it stay saved. Changes of the modem lines are saved as by test_loopback. The FIFOs
- * are reset and set up again, with the level of the configuration, or one byte if none is
- * configured, and fifo_enabled is read again. Afterwards MCR and IER are as before.
+ * Waits at most spin_limit polls each time. The errors that are found in loopback are those of its
+ * own bytes, the overrun among them, and are discarded; error bits that were saved before it stay
+ * saved. Changes of the modem lines are saved as by u16550_test_loopback. The FIFOs are reset and
+ * set up again, with the level of the configuration, or one byte if none is configured, and
+ * fifo_enabled is read again. Afterwards MCR and IER are as before.
  *
- * A chip whose transmitter holds fewer characters than its receiver is measured right only if
- * the transmitter sends little while the bytes are written, that is at usual baud rates.
+ * A chip whose transmitter holds fewer characters than its receiver is measured right only if the
+ * transmitter sends little while the bytes are written, that is at usual baud rates.
  *
  * Errors
  *
- * - FifosOff if the FIFOs are off (fifo_enabled). No access was made.
- * - Stalled after spin_limit unsuccessful polls in a row. If the first wait failed,
- *   nothing was written, and what the polls cleared is saved. Later the FIFOs are reset, so
- *   that of the bytes in the transmitter at most the rest of one character goes out. On a chip
- *   without FIFOs, which a reset of them does not empty, up to two bytes may go out.
- * - TooFew if fewer than 16 bytes came back. Call test_loopback to see whether any does.
+ * - U16550_FIFOS_OFF if the FIFOs are off (fifo_enabled). No access was made.
+ * - U16550_FIFOS_STALLED after spin_limit unsuccessful polls in a row. If the first wait failed,
+ *   nothing was written, and what the polls cleared is saved. Later the FIFOs are reset, so that
+ *   of the bytes in the transmitter at most the rest of one character goes out. On a chip without
+ *   FIFOs, which a reset of them does not empty, up to two bytes may go out.
+ * - U16550_FIFOS_TOO_FEW if fewer than 16 bytes came back. Call u16550_test_loopback to see
+ *   whether any does.
  *
  * Except for the first wait, MCR and IER are restored before the error is returned.
  *
- * Proved: nothing is done if the FIFOs are off. Else MCR and IER are read, and there is a
- * wait for an empty transmitter. If it reaches the limit, nothing is written, and the result
- * is a stall; else loopback is entered, the transmitter is flooded, what comes back is
- * counted, the FIFOs are reset, and MCR and IER are restored. The result is the largest size
- * of no more characters than came back.
+ * Proved: nothing is done if the FIFOs are off. Else MCR and IER are read, and there is a wait for
+ * an empty transmitter. If it reaches the limit, nothing is written, and the result is a stall;
+ * else loopback is entered, the transmitter is flooded, what comes back is counted, the FIFOs are
+ * reset, and MCR and IER are restored. The result is the largest size of no more characters than
+ * came back.
  */
-static struct uart_fifo_size_or_fifo_size_error uart_find_fifo_size(struct u16550_core_driver *uart)
+static int uart_find_fifo_size(struct u16550_core_driver *uart, uint8_t *size)
 {
     if (!uart->fifo_enabled)
-        return uart_bad_fifo_size_or_fifo_size_error(uart_fifo_size_error_fifos_off());
+        return U16550_FIFOS_OFF;
     uint8_t mcr = uart_mcr(uart);
     uint8_t ier = uart_ier(uart);
     if (!uart_wait_for(uart, U16550_LSR_TRANSMITTER_EMPTY))
-        return uart_bad_fifo_size_or_fifo_size_error(uart_fifo_size_error_stalled());
+        return U16550_FIFOS_STALLED;
     uint8_t noted = uart->saved_lsr;
-    struct u16550_core_maybe_fifo_trigger_level level = uart_level_of(uart, true);
+    struct u16550_core_maybe_fifo_trigger_level level;
+    level.is_some = uart_level_of(uart, true, &level.value);
     uint8_t before = uart_enter_loopback(uart, level);
-    struct uart_fifo_size_or_fifo_size_error found = uart_find_and_reset(uart, level);
+    int status = uart_find_and_reset(uart, level, size);
     uart_leave_loopback(uart, mcr, ier, before, noted);
-    return found;
+    return status;
 }
 
 /*
- * Waits until LSR shows TRANSMITTER_EMPTY, as flush of embedded_io
- * does, and no longer than the caller wants: patience is asked after each poll that fails.
+ * Waits until LSR shows TRANSMITTER_EMPTY, as u16550_flush does, and no longer than the caller
+ * wants: patience is asked after each poll that fails.
  *
  * So the wait can end at a time, by whatever clock the caller has. It ends after spin_limit
- * unsuccessful polls in a row too. No poll follows the answer to wait no longer. Error bits
- * are saved for the next lsr, and do not end the call.
+ * unsuccessful polls in a row too. No poll follows the answer to wait no longer. Error bits are
+ * saved for the next u16550_lsr, and do not end the call.
  *
  * Errors
  *
- * StalledError, with done 0, if patience answered to wait no longer, or after
- * spin_limit unsuccessful polls in a row. What was sent goes on to leave the chip.
+ * U16550_STALLED, with done 0, if patience answered to wait no longer, or after spin_limit
+ * unsuccessful polls in a row. What was sent goes on to leave the chip.
  *
- * Proved: flush_while, with the answers of the caller: the transmitter was empty after fewer
- * misses in a row than the limit; or the wait was in vain.
+ * Proved: with the answers of the caller: the transmitter was empty after fewer misses in a row
+ * than the limit; or the wait was in vain.
  */
-static struct uart_maybe_stalled_error
-uart_flush_while(struct u16550_core_driver *uart, struct uart_patience *patience)
+static int
+uart_flush_while(struct u16550_core_driver *uart, struct uart_patience *patience,
+    size_t *stalled_at)
 {
-    uint64_t number = uart->spin_limit;
-    for (uint64_t poll = 0; poll < number; poll++) {
+    uint64_t spin_limit = uart->spin_limit;
+    for (uint64_t poll = 0; poll < spin_limit; poll++) {
         if ((uart_read_lsr(uart) & U16550_LSR_TRANSMITTER_EMPTY) != 0)
-            return uart_no_stalled_error();
-        if (!uart_patience_keep_waiting(patience))
-            return uart_failed_stalled_error(0);
+            return U16550_OK;
+        if (!uart_patience_keep_waiting(patience)) {
+            *stalled_at = 0;
+            return U16550_STALLED;
+        }
     }
-    return uart_failed_stalled_error(0);
+    *stalled_at = 0;
+    return U16550_STALLED;
 }
 
 /* Returns a driver over this backend that continues from this state. Makes no access. */
 static struct u16550_core_driver
 uart_from_state(struct u16550_device backend, const struct uart_driver_state *state)
 {
-    struct u16550_core_config config;
-    config.interrupts = state->config.interrupts;
-    config.frequency = state->config.frequency;
-    config.prescaler_division_factor = state->config.prescaler_division_factor;
-    config.fifo_trigger_level = state->config.fifo_trigger_level;
-    config.baud_rate = state->config.baud_rate;
-    config.data_bits = state->config.data_bits;
-    config.extra_stop_bits = state->config.extra_stop_bits;
-    config.parity = state->config.parity;
-    config.check_cts_before_sending = state->config.check_cts_before_sending;
+    struct u16550_core_config config = state->config;
     struct u16550_core_driver uart;
     uart.backend = backend;
     uart.config = config;
@@ -2749,36 +1655,35 @@ uart_from_state(struct u16550_device backend, const struct uart_driver_state *st
 }
 
 /*
- * Turns interrupts off, and sets the divisor and the frame. A character that is going out has
- * the new ones from then on, so the remote gets it corrupted. No wait of init prevents that:
- * call flush before, if it matters.
+ * Turns interrupts off, and sets the divisor and the frame. A character that is going out has the
+ * new ones from then on, so the remote gets it corrupted. No wait of u16550_init prevents that:
+ * call u16550_flush before, if it matters.
  */
 static void uart_set_line(struct u16550_core_driver *uart, uint16_t divisor, uint8_t frame)
 {
     uart_write_register(uart, UART_LCR, 0);
     uart_write_register(uart, UART_IER, 0);
     uart_write_register(uart, UART_LCR, U16550_LCR_DLAB);
-    uart_write_register(uart, UART_DATA, (uint8_t)(uint16_t)(divisor % 256));
-    uart_write_register(uart, UART_IER, (uint8_t)(uint16_t)(divisor / 256));
+    uart_write_register(uart, UART_DLL, (uint8_t)(divisor & 0xff));
+    uart_write_register(uart, UART_DLM, (uint8_t)(divisor >> 8));
     uart_write_register(uart, UART_LCR, 0);
     uart_write_register(uart, UART_LCR, frame);
 }
 
 /*
- * Discards received bytes until none is available, or as many as the receiver can hold. More
- * are not discarded: a remote that never stops sending must not hold init for ever. What the
+ * Discards received bytes until none is available, or as many as the receiver can hold. More are
+ * not discarded: a remote that never stops sending must not hold u16550_init for ever. What the
  * reads clear is not saved, since those errors are of bytes that nobody gets.
  *
- * Proved: a list of the language whose reads are not saved.
- * Proved: received bytes are discarded until none is available, or as many as the receiver
- * can hold.
+ * Proved: received bytes are discarded until none is available, or as many as the receiver can
+ * hold.
  */
 static inline void uart_drain(struct u16550_core_driver *uart)
 {
-    for (uint64_t turn = 0; turn < 17; turn++) {
-        if ((uart_read_plain(uart, 5) & U16550_LSR_DATA_READY) == 0)
+    for (uint64_t turn = 0; turn < UART_MOST_WAITING; turn++) {
+        if ((uart_read_plain(uart, UART_LSR) & U16550_LSR_DATA_READY) == 0)
             return;
-        uart_read_plain(uart, 0);
+        uart_read_plain(uart, UART_DATA);
     }
 }
 
@@ -2789,116 +1694,115 @@ static inline void uart_drain(struct u16550_core_driver *uart)
  */
 static inline void uart_finish_init(struct u16550_core_driver *uart)
 {
-    uart_read_plain(uart, 5);
-    uart_read_plain(uart, 2);
-    uart_read_plain(uart, 6);
+    uart_read_plain(uart, UART_LSR);
+    uart_read_plain(uart, UART_ISR);
+    uart_read_plain(uart, UART_MSR);
     uart->saved_lsr = 0;
     uart->saved_msr = 0;
     uart_write_register(uart, UART_IER, uart->config.interrupts);
 }
 
 /*
- * Initialises the device with this configuration, whose divisor this is. This is a function of
- * its own for callers that have tested the configuration already, and so have its divisor.
+ * Initialises the device with this configuration, whose divisor this is. This is a function of its
+ * own for callers that have tested the configuration already, and so have its divisor.
  *
- * Proved: the configuration is stored, the scratch register tested, divisor, frame and FIFO
- * are set, the receiver is drained, and MCR is written; after a wait for an empty
- * transmitter the statuses are read, and IER is written. Or nothing is done, if there is no
- * divisor; or all up to the test that fails, or to the wait that reaches the limit.
+ * Proved: the configuration is stored, the scratch register tested, divisor, frame and FIFO are
+ * set, the receiver is drained, and MCR is written; after a wait for an empty transmitter the
+ * statuses are read, and IER is written. Or nothing is done, if there is no divisor; or all up to
+ * the test that fails, or to the wait that reaches the limit.
  */
-static struct uart_init_error
+static int
 uart_set_up(struct u16550_core_driver *uart, struct u16550_core_config config, uint16_t divisor)
 {
     uart->config = config;
-    uint8_t frame = uart_frame_of(&uart->config);
+    uint8_t frame = uart_lcr_of_config(&uart->config);
     struct u16550_core_maybe_fifo_trigger_level level = uart->config.fifo_trigger_level;
     if (!uart_check_present(uart))
-        return uart_init_error_device_not_present();
+        return U16550_INIT_DEVICE_NOT_PRESENT;
     uart_set_line(uart, divisor, frame);
     uart->fifo_enabled = uart_set_fifo(uart, level);
     uart_drain(uart);
     uart_write_register(uart, UART_MCR,
         U16550_MCR_DTR | U16550_MCR_RTS | U16550_MCR_OUT_2_INT_ENABLE);
     if (!uart_wait_for(uart, U16550_LSR_TRANSMITTER_EMPTY))
-        return uart_init_error_stalled();
+        return U16550_INIT_STALLED;
     uart_finish_init(uart);
-    return uart_init_error_none();
+    return U16550_OK;
 }
 
 /*
  * Initialises the device with this configuration, which must be computable
- * (Config_is_computable).
+ * (uart_config_is_computable).
  *
- * Call it before any other call, again after raw accesses that changed the setup of the chip,
- * and to change the configuration. Call it with the processor's interrupts masked: an
- * interrupt may be pending before it returns.
+ * Call it before any other call, again after raw accesses that changed the setup of the chip, and
+ * to change the configuration. Call it with the processor's interrupts masked: an interrupt may be
+ * pending before it returns.
  *
  * In this order it
  *
- * - computes the divisor, and checks that a device is present as check_present does;
+ * - computes the divisor, and checks that a device is present as u16550_check_present does;
  * - disables all interrupts, writes the divisor to DLL and DLM, and the frame to LCR;
- * - resets both FIFOs by FCR and, if a trigger level is configured, turns them on and reads
- *   from ISR whether they are. ISR with bit 7 alone, as one known broken chip returns it,
- *   counts as no FIFO;
+ * - resets both FIFOs by FCR and, if a trigger level is configured, turns them on and reads from
+ *   ISR whether they are. ISR with bit 7 alone, as one known broken chip returns it, counts as no
+ *   FIFO;
  * - discards received bytes, at most 17;
  * - sets DTR, RTS and OUT2 in MCR, and clears loopback;
  * - waits until LSR shows TRANSMITTER_EMPTY, at most spin_limit polls;
  * - reads LSR, ISR and MSR to clear them, and writes the configured interrupts to IER.
  *
- * Afterwards no status bits are saved, config returns the new configuration, and
- * fifo_enabled whether the FIFOs are on. SPR is unchanged. Bytes that were in the
- * transmitter FIFO may be lost by the reset.
+ * Afterwards no status bits are saved, config returns the new configuration, and fifo_enabled
+ * whether the FIFOs are on. SPR is unchanged. Bytes that were in the transmitter FIFO may be lost
+ * by the reset.
  *
- * Without a trigger level the FIFOs are off, and bytes are sent one at a time. Some versions
- * of QEMU were reported to stall in this mode.
+ * Without a trigger level the FIFOs are off, and bytes are sent one at a time. Some versions of
+ * QEMU were reported to stall in this mode.
  *
  * Errors
  *
- * - InvalidBaudRate if the divisor is not a whole number, or does not fit into the divisor
- *   latch. No access was made, and nothing changed.
- * - DeviceNotPresent if SPR does not keep a pattern. SPR was written back, and the driver
- *   has the new configuration. Saved bits and fifo_enabled are unchanged.
- * - Stalled if the transmitter was not empty after spin_limit polls. The interrupts of the
- *   device are disabled, the driver has the new configuration, and the status bits that the
+ * - U16550_INIT_NON_INTEGER_DIVISOR or U16550_INIT_DIVISOR_OUT_OF_RANGE if the divisor is not a
+ *   whole number, or does not fit into the divisor latch. No access was made, and nothing changed.
+ * - U16550_INIT_DEVICE_NOT_PRESENT if SPR does not keep a pattern. SPR was written back, and the
+ *   driver has the new configuration. Saved bits and fifo_enabled are unchanged.
+ * - U16550_INIT_STALLED if the transmitter was not empty after spin_limit polls. The interrupts of
+ *   the device are disabled, the driver has the new configuration, and the status bits that the
  *   polls cleared are saved.
  *
- * Proved: the configuration is stored, the scratch register tested, divisor, frame and FIFO
- * are set, the receiver is drained, and MCR is written; after a wait for an empty
- * transmitter the statuses are read, and IER is written. Or nothing is done, if there is no
- * divisor; or all up to the test that fails, or to the wait that reaches the limit.
+ * Proved: the configuration is stored, the scratch register tested, divisor, frame and FIFO are
+ * set, the receiver is drained, and MCR is written; after a wait for an empty transmitter the
+ * statuses are read, and IER is written. Or nothing is done, if there is no divisor; or all up to
+ * the test that fails, or to the wait that reaches the limit.
  */
-static inline struct uart_init_error
-uart_init(struct u16550_core_driver *uart, struct u16550_core_config config)
+static int uart_init(struct u16550_core_driver *uart, struct u16550_core_config config)
 {
-    struct uart_u16_or_invalid_divisor_error outcome =
-        uart_calc_divisor(config.frequency, uart_baud_rate_to_integer(config.baud_rate),
-        config.prescaler_division_factor);
-    if (outcome.error.kind != UART_INVALID_DIVISOR_ERROR_NONE)
-        return uart_init_error_invalid_baud_rate(outcome.error);
-    return uart_set_up(uart, config, outcome.value);
+    uint16_t divisor;
+    int status =
+        uart_calc_divisor(config.frequency, uart_baud_rate_bps(config.baud_rate),
+        config.prescaler_division_factor, &divisor);
+    if (status != U16550_OK)
+        return uart_init_error_of(status);
+    return uart_set_up(uart, config, divisor);
 }
 
 /*
  * Checks that a device is present, if that is asked for.
  *
- * Proved: the presence check, if it is asked for; without it a device is taken to be
- * present.
+ * Proved: the presence check, if it is asked for; without it a device is taken to be present.
  */
 static inline bool uart_is_present(struct u16550_core_driver *uart, bool asked)
 {
     return !asked || uart_check_present(uart);
 }
 
-static inline bool uart_is_first(enum uart_transmitter_wait wait)
+static inline bool uart_is_first(uint8_t wait)
 {
-    return wait == UART_TRANSMITTER_WAIT_FIRST;
+    return wait == U16550_WAIT_FIRST;
 }
 
 /*
  * Waits until the transmitter is empty, if that is asked for.
  *
- * Proved: the wait for an empty transmitter, if it is asked for; without it the transmitter
- * is taken to be empty.
+ * Proved: the wait for an empty transmitter, if it is asked for; without it the transmitter is
+ * taken to be empty.
  */
 static inline bool uart_is_emptied(struct u16550_core_driver *uart, bool asked)
 {
@@ -2908,7 +1812,7 @@ static inline bool uart_is_emptied(struct u16550_core_driver *uart, bool asked)
 /*
  * Writes MCR: the outputs to the modem are as these bits say, and loopback is off.
  *
- * OUT_2_INT_ENABLE gates the interrupt line on a PC, and init sets it. So leave it in the
+ * OUT_2_INT_ENABLE gates the interrupt line on a PC, and u16550_init sets it. So leave it in the
  * bits if interrupts are used.
  *
  * Proved: these bits are written to MCR, without loopback.
@@ -2918,104 +1822,107 @@ static inline void uart_set_modem_control(struct u16550_core_driver *uart, uint8
     uart_write_register(uart, UART_MCR, outputs & (uint8_t)~U16550_MCR_LOOP_BACK);
 }
 
-static inline bool uart_is_last(enum uart_transmitter_wait wait)
+static inline bool uart_is_last(uint8_t wait)
 {
-    return wait == UART_TRANSMITTER_WAIT_LAST;
+    return wait == U16550_WAIT_LAST;
 }
 
 /*
  * Initialises the device with this configuration, whose divisor this is, as setup asks.
  *
- * Proved: as init, with the test, the wait and the outputs of this setup. The configuration
- * is stored; the test and the wait that is to be first are made; divisor, frame and FIFO are
- * set, the receiver is drained, and MCR is written; the wait that is to be last is made; the
- * statuses are read, and IER is written. Or nothing is done, if there is no divisor; or all
- * up to the test that fails, or to the wait that reaches the limit.
+ * Proved: as u16550_init, with the test, the wait and the outputs of this setup. The configuration
+ * is stored; the test and the wait that is to be first are made; divisor, frame and FIFO are set,
+ * the receiver is drained, and MCR is written; the wait that is to be last is made; the statuses
+ * are read, and IER is written. Or nothing is done, if there is no divisor; or all up to the test
+ * that fails, or to the wait that reaches the limit.
  */
-static struct uart_init_error
+static int
 uart_set_up_with(struct u16550_core_driver *uart, struct u16550_core_config config,
     const struct uart_setup *setup, uint16_t divisor)
 {
     uart->config = config;
-    uint8_t frame = uart_frame_of(&uart->config);
+    uint8_t frame = uart_lcr_of_config(&uart->config);
     struct u16550_core_maybe_fifo_trigger_level level = uart->config.fifo_trigger_level;
     if (!uart_is_present(uart, setup->checks_presence))
-        return uart_init_error_device_not_present();
+        return U16550_INIT_DEVICE_NOT_PRESENT;
     if (!uart_is_emptied(uart, uart_is_first(setup->wait)))
-        return uart_init_error_stalled();
+        return U16550_INIT_STALLED;
     uart_set_line(uart, divisor, frame);
     uart->fifo_enabled = uart_set_fifo(uart, level);
     uart_drain(uart);
     uart_set_modem_control(uart, setup->outputs);
     if (!uart_is_emptied(uart, uart_is_last(setup->wait)))
-        return uart_init_error_stalled();
+        return U16550_INIT_STALLED;
     uart_finish_init(uart);
-    return uart_init_error_none();
+    return U16550_OK;
 }
 
 /*
  * Initialises the device with this configuration, which must be computable
- * (Config_is_computable), otherwise than init does: without the check of the scratch
+ * (uart_config_is_computable), otherwise than u16550_init does: without the check of the scratch
  * register, with the wait for the transmitter first or not at all, or with other outputs.
  *
- * What it does is in the order of init, except for the wait if it comes first: it comes then
- * between the check and the first write. With Setup_DEFAULT it makes the accesses of
- * init.
+ * What it does is in the order of u16550_init, except for the wait if it comes first: it comes
+ * then between the check and the first write. With { 1, U16550_WAIT_LAST, 0x0b } it makes the
+ * accesses of u16550_init.
  *
  * Errors
  *
- * - InvalidBaudRate as for init. No access was made, and nothing changed.
- * - DeviceNotPresent as for init, if the check is asked for.
- * - Stalled if the transmitter was not empty after spin_limit polls, if a wait is asked
- *   for. The driver has the new configuration, and the status bits that the polls cleared are
- *   saved. If the wait came first, nothing was written except the scratch register, and the
+ * - U16550_INIT_NON_INTEGER_DIVISOR or U16550_INIT_DIVISOR_OUT_OF_RANGE as for u16550_init. No
+ *   access was made, and nothing changed.
+ * - U16550_INIT_DEVICE_NOT_PRESENT as for u16550_init, if the check is asked for.
+ * - U16550_INIT_STALLED if the transmitter was not empty after spin_limit polls, if a wait is
+ *   asked for. The driver has the new configuration, and the status bits that the polls cleared
+ *   are saved. If the wait came first, nothing was written except the scratch register, and the
  *   interrupts of the device are as they were; else they are disabled.
  *
- * Proved: as init, with the test, the wait and the outputs of this setup. The configuration
- * is stored; the test and the wait that is to be first are made; divisor, frame and FIFO are
- * set, the receiver is drained, and MCR is written; the wait that is to be last is made; the
- * statuses are read, and IER is written. Or nothing is done, if there is no divisor; or all
- * up to the test that fails, or to the wait that reaches the limit.
+ * Proved: as u16550_init, with the test, the wait and the outputs of this setup. The configuration
+ * is stored; the test and the wait that is to be first are made; divisor, frame and FIFO are set,
+ * the receiver is drained, and MCR is written; the wait that is to be last is made; the statuses
+ * are read, and IER is written. Or nothing is done, if there is no divisor; or all up to the test
+ * that fails, or to the wait that reaches the limit.
  */
-static inline struct uart_init_error
+static int
 uart_init_with(struct u16550_core_driver *uart, struct u16550_core_config config,
     const struct uart_setup *setup)
 {
-    struct uart_u16_or_invalid_divisor_error outcome =
-        uart_calc_divisor(config.frequency, uart_baud_rate_to_integer(config.baud_rate),
-        config.prescaler_division_factor);
-    if (outcome.error.kind != UART_INVALID_DIVISOR_ERROR_NONE)
-        return uart_init_error_invalid_baud_rate(outcome.error);
-    return uart_set_up_with(uart, config, setup, outcome.value);
+    uint16_t divisor;
+    int status =
+        uart_calc_divisor(config.frequency, uart_baud_rate_bps(config.baud_rate),
+        config.prescaler_division_factor, &divisor);
+    if (status != U16550_OK)
+        return uart_init_error_of(status);
+    return uart_set_up_with(uart, config, setup, divisor);
 }
 
 /*
- * Returns whether the chip is gone, as one that was unplugged: whether MCR shows FF, which is
- * what most buses show where nobody answers.
+ * Returns whether the chip is gone, as one that was unplugged: whether MCR shows FF, which is what
+ * most buses show where nobody answers.
  *
- * Then LSR shows FF too: a byte waits, and the transmitter is empty. So each call that
- * receives finds bytes, all of them FF, and each call that sends succeeds. Call this after
- * bytes of FF, or now and then.
+ * Then LSR shows FF too: a byte waits, and the transmitter is empty. So each call that receives
+ * finds bytes, all of them FF, and each call that sends succeeds. Call this after bytes of FF, or
+ * now and then.
  *
- * Does not wait: reads MCR once, which changes nothing. A chip that is there does not show FF:
- * a 16550 has no bits 5 to 7 in MCR, and on later chips all bits would be set only together
- * with LOOP_BACK, which the driver leaves off. A bus that shows something else where nobody
- * answers, as 0, is not told from a chip.
+ * Does not wait: reads MCR once, which changes nothing. A chip that is there does not show FF: a
+ * 16550 has no bits 5 to 7 in MCR, and on later chips all bits would be set only together with
+ * LOOP_BACK, which the driver leaves off. A bus that shows something else where nobody answers is
+ * not told from a chip: with 0 each wait stalls, and with 7F bytes of 7F arrive.
+ * u16550_check_present, which writes SPR, tells those too.
  *
- * Proved: one read of MCR, which shows all bits set, as a bus does that nobody drives,
- * exactly if the result is true.
+ * Proved: one read of MCR, which shows all bits set, as a bus does that nobody drives, exactly if
+ * the result is true.
  */
 static inline bool uart_is_gone(struct u16550_core_driver *uart)
 {
-    return uart_mcr(uart) == 255;
+    return uart_mcr(uart) == UART_UNDRIVEN;
 }
 
 /*
- * Returns whether the transmitter is empty, both its FIFO and its shift register: whether all
- * that was sent is on the line. flush waits for that.
+ * Returns whether the transmitter is empty, both its FIFO and its shift register: whether all that
+ * was sent is on the line. u16550_flush waits for that.
  *
- * Does not wait: reads LSR once. This clears the error bits in the chip; they are saved for
- * the next lsr.
+ * Does not wait: reads LSR once. This clears the error bits in the chip; they are saved for the
+ * next u16550_lsr.
  *
  * Proved: one read of LSR, which shows whether the transmitter is empty.
  */
@@ -3025,62 +1932,61 @@ static inline bool uart_is_idle(struct u16550_core_driver *uart)
 }
 
 /*
- * Reads the line status register (LSR). Returns it joined with the error bits that earlier
- * reads by this driver cleared in the chip, and that are saved. Afterwards no error bits of
- * LSR are saved.
- *
- * Call it to find out whether received bytes had errors or were lost. Does not wait.
- * has_error of the result also counts bit 7, an error somewhere in the FIFO, which is not
+ * Reads the line status register (LSR). Returns it joined with the error bits that earlier reads
+ * by this driver cleared in the chip, and that are saved. Afterwards no error bits of LSR are
  * saved.
  *
- * Proved: one read of LSR, which is returned joined with the saved bits, of which none are
- * left.
+ * Call it to find out whether received bytes had errors or were lost. Does not wait. The result
+ * has bit 7 too, an error somewhere in the FIFO, which is not saved.
+ *
+ * Proved: one read of LSR, which is returned joined with the saved bits, of which none are left.
  */
 static inline uint8_t uart_lsr(struct u16550_core_driver *uart)
 {
     uint8_t lsr = uart_read_lsr(uart);
-    uint8_t lsr2 = uart->saved_lsr;
+    uint8_t saved_lsr = uart->saved_lsr;
     uart->saved_lsr = 0;
-    return lsr | lsr2;
+    return lsr | saved_lsr;
 }
 
 /*
- * Reads the modem status register (MSR). Returns it joined with the changes that earlier reads
- * by this driver cleared in the chip, and that are saved. Afterwards no changes are saved.
+ * Reads the modem status register (MSR). Returns it joined with the changes that earlier reads by
+ * this driver cleared in the chip, and that are saved. Afterwards no changes are saved.
  *
  * Call it to find out which modem lines changed. Does not wait.
  *
- * Proved: one read of MSR, which is returned joined with the saved bits, of which none are
- * left.
+ * Proved: one read of MSR, which is returned joined with the saved bits, of which none are left.
  */
 static inline uint8_t uart_msr(struct u16550_core_driver *uart)
 {
     uint8_t msr = uart_read_msr(uart);
-    uint8_t msr2 = uart->saved_msr;
+    uint8_t saved_msr = uart->saved_msr;
     uart->saved_msr = 0;
-    return msr | msr2;
+    return msr | saved_msr;
 }
 
 /*
  * Returns a driver over this backend.
  *
- * Makes no access: call init before any other call, or attach. Until then the
- * configuration is Config_DEFAULT, no status bits are saved, and the FIFO is taken to be
- * on. So a send before may write 16 bytes into a chip without a FIFO, which keeps one of them.
- * The size of the FIFOs is FifoSize_Sixteen, until set_fifo_size sets another.
+ * Makes no access: call u16550_init before any other call, or u16550_attach. Until then the
+ * configuration is that of u16550_default_config, no status bits are saved, and the FIFO is taken
+ * to be on. So a send before may write 16 bytes into a chip without a FIFO, which keeps one of
+ * them. The size of the FIFOs is 16, until u16550_set_fifo_size sets another.
  */
 static struct u16550_core_driver uart_new_with_backend(struct u16550_device backend)
 {
     struct u16550_core_config config;
     config.interrupts = 0;
     config.frequency = UINT32_C(1843200);
-    config.prescaler_division_factor = uart_no_u32();
-    config.fifo_trigger_level =
-        uart_some_fifo_trigger_level(U16550_CORE_FIFO_TRIGGER_LEVEL_FOURTEEN);
-    config.baud_rate = uart_baud_rate_baud9600();
+    config.prescaler_division_factor.is_some = false;
+    config.prescaler_division_factor.value = 0;
+    config.fifo_trigger_level.is_some = true;
+    config.fifo_trigger_level.value = U16550_CORE_FIFO_TRIGGER_LEVEL_FOURTEEN;
+    config.baud_rate.kind = U16550_CORE_BAUD_RATE_BAUD9600;
+    config.baud_rate.custom = 0;
     config.data_bits = U16550_CORE_WORD_LENGTH_EIGHT_BITS;
     config.extra_stop_bits = false;
-    config.parity = U16550_CORE_PARITY_DISABLED;
+    config.parity = U16550_PARITY_NONE;
     config.check_cts_before_sending = false;
     struct u16550_core_driver uart;
     uart.backend = backend;
@@ -3094,12 +2000,12 @@ static struct u16550_core_driver uart_new_with_backend(struct u16550_device back
 }
 
 /*
- * Reads and returns the modem status register (MSR) as it is now. The changes that this clears
- * in the chip are saved for the next msr.
+ * Reads and returns the modem status register (MSR) as it is now. The changes that this clears in
+ * the chip are saved for the next u16550_msr.
  *
- * Call it to find out how the modem lines are. Does not wait. Like each read of MSR it clears
- * a modem status interrupt that is pending, so no handler is called for it any more: call
- * msr afterwards, which tells the change.
+ * Call it to find out how the modem lines are. Does not wait. Like each read of MSR it clears a
+ * modem status interrupt that is pending, so no handler is called for it any more: call u16550_msr
+ * afterwards, which tells the change.
  */
 static inline uint8_t uart_peek_modem(struct u16550_core_driver *uart)
 {
@@ -3107,35 +2013,40 @@ static inline uint8_t uart_peek_modem(struct u16550_core_driver *uart)
 }
 
 /* Writes FCR as is asked for, and returns whether the FIFOs are on then. */
-static bool uart_change_fifos(struct u16550_core_driver *uart, enum uart_fifo_action action)
+static bool uart_change_fifos(struct u16550_core_driver *uart, uint8_t action)
 {
     bool on = uart->fifo_enabled;
     switch (action) {
-    case UART_FIFO_ACTION_KEEP:
+    case U16550_FIFOS_KEEP:
         return on;
-    case UART_FIFO_ACTION_RESET:
-        uart_write_register(uart, UART_FCR, uart_fifo_control_of(uart_level_of(uart, on)));
+    case U16550_FIFOS_RESET: {
+        struct u16550_core_maybe_fifo_trigger_level level;
+        level.is_some = uart_level_of(uart, on, &level.value);
+        uart_write_register(uart, UART_FCR, uart_fcr_of_level(level));
         return on;
-    case UART_FIFO_ACTION_DISABLE:
-    default:
-        uart_write_register(uart, UART_FCR, uart_fifo_control_of(uart_no_fifo_trigger_level()));
+    }
+    case U16550_FIFOS_DISABLE:
+    default: {
+        struct u16550_core_maybe_fifo_trigger_level fifo_trigger_level =
+            { false, U16550_CORE_FIFO_TRIGGER_LEVEL_ONE };
+        uart_write_register(uart, UART_FCR, uart_fcr_of_level(fifo_trigger_level));
         return false;
+    }
     }
 }
 
 /*
- * Leaves the port, so that the chip interrupts nobody: disables all interrupts, writes the
- * outputs to the modem, and does with the FIFOs what is asked for.
+ * Leaves the port, so that the chip interrupts nobody: disables all interrupts, writes the outputs
+ * to the modem, and does with the FIFOs what is asked for.
  *
- * Does not wait: what is still in the transmitter goes out, if the FIFOs are kept. LOOP_BACK
- * is left out of the outputs. Afterwards the driver's configuration has no interrupts. init,
- * or restore with a dump that was made before, takes the port up again.
+ * Does not wait: what is still in the transmitter goes out, if the FIFOs are kept. LOOP_BACK is
+ * left out of the outputs. Afterwards the driver's configuration has no interrupts. u16550_init,
+ * or u16550_restore with a dump that was made before, takes the port up again.
  *
- * Proved: all interrupts are disabled, the outputs are written to MCR, without loopback, and
- * then FCR, if the FIFOs are to be reset or disabled.
+ * Proved: all interrupts are disabled, the outputs are written to MCR, without loopback, and then
+ * FCR, if the FIFOs are to be reset or disabled.
  */
-static inline void
-uart_quiesce(struct u16550_core_driver *uart, uint8_t outputs, enum uart_fifo_action fifos)
+static inline void uart_quiesce(struct u16550_core_driver *uart, uint8_t outputs, uint8_t fifos)
 {
     uart->config.interrupts = 0;
     uart_write_register(uart, UART_IER, 0);
@@ -3147,8 +2058,8 @@ uart_quiesce(struct u16550_core_driver *uart, uint8_t outputs, enum uart_fifo_ac
  * Returns whether the modem lines allow sending. In loopback they do not matter: CTS is then
  * connected to RTS inside the chip, and says nothing about the remote.
  *
- * Proved: whether the modem lines allow sending: they do if MCR shows loopback, in which
- * they mean nothing, or if MSR shows CTS.
+ * Proved: whether the modem lines allow sending: they do if MCR shows loopback, in which they mean
+ * nothing, or if MSR shows CTS.
  */
 static inline bool uart_is_clear_to_send(struct u16550_core_driver *uart)
 {
@@ -3158,51 +2069,51 @@ static inline bool uart_is_clear_to_send(struct u16550_core_driver *uart)
 }
 
 /*
- * Checks whether a byte can be sent now: whether LSR shows THR_EMPTY and, if the
- * configuration checks CTS, the remote is clear to send.
+ * Checks whether a byte can be sent now: whether LSR shows THR_EMPTY and, if the configuration
+ * checks CTS, the remote is clear to send.
  *
- * Does not wait: reads LSR once. If the configuration checks CTS and THR is empty, it also
- * reads MCR and, unless that shows loopback, MSR. The errors and changes that these reads
- * clear are saved for the next lsr and msr.
+ * Does not wait: reads LSR once. If the configuration checks CTS and THR is empty, it also reads
+ * MCR and, unless that shows loopback, MSR. The errors and changes that these reads clear are
+ * saved for the next u16550_lsr and u16550_msr.
  *
  * Errors
  *
- * - NoCapacity if THR, or the transmitter FIFO, is not empty.
- * - RemoteNotClearToSend if it is empty, but the remote does not assert CTS.
+ * - U16550_SEND_NO_CAPACITY if THR, or the transmitter FIFO, is not empty.
+ * - U16550_SEND_NOT_CLEAR_TO_SEND if it is empty, but the remote does not assert CTS.
  *
  * Proved: one send check: LSR shows THR_EMPTY and, if CTS is checked, the modem lines allow
  * sending; or the error names which of these is not so.
  */
-static inline enum uart_byte_send_error uart_ready_to_send(struct u16550_core_driver *uart)
+static inline int uart_ready_to_send(struct u16550_core_driver *uart)
 {
     if ((uart_read_lsr(uart) & U16550_LSR_THR_EMPTY) == 0)
-        return UART_BYTE_SEND_ERROR_NO_CAPACITY;
+        return U16550_SEND_NO_CAPACITY;
     if (!uart->config.check_cts_before_sending)
-        return UART_BYTE_SEND_ERROR_NONE;
+        return U16550_OK;
     if (!uart_is_clear_to_send(uart))
-        return UART_BYTE_SEND_ERROR_REMOTE_NOT_CLEAR_TO_SEND;
-    return UART_BYTE_SEND_ERROR_NONE;
+        return U16550_SEND_NOT_CLEAR_TO_SEND;
+    return U16550_OK;
 }
 
 /*
- * Receives bytes while some are available and there are free slots. Returns how many, and
- * leaves the slots beyond them unchanged.
+ * Receives bytes while some are available and there are free slots. Returns how many, and leaves
+ * the slots beyond them unchanged.
  *
- * Does not wait: reads LSR before each byte, and ends when it shows none. Call it again with
- * the rest of the slice to receive more. An empty slice makes no access. Error bits are saved
- * for the next lsr, and do not end the call.
+ * Does not wait: reads LSR before each byte, and ends when it shows none. Call it again with the
+ * rest of the array to receive more. An empty array makes no access. Error bits are saved for the
+ * next u16550_lsr, and do not end the call.
  *
- * Proved: bytes are read from DATA, each after LSR shows it, until the slots are full, or
- * LSR shows none.
+ * Proved: bytes are read from DATA, each after LSR shows it, until the slots are full, or LSR
+ * shows none.
  */
 static inline size_t
 uart_receive_bytes(struct u16550_core_driver *uart, uint8_t *buffer, size_t buffer_len)
 {
     for (size_t count = 0; count < buffer_len; count++) {
-        struct u16550_core_maybe_u8 found = uart_try_receive_byte(uart);
-        if (!found.is_some)
+        uint8_t byte;
+        if (!uart_try_receive_byte(uart, &byte))
             return count;
-        buffer[count] = found.value;
+        buffer[count] = byte;
     }
     return buffer_len;
 }
@@ -3213,158 +2124,158 @@ uart_receive_bytes(struct u16550_core_driver *uart, uint8_t *buffer, size_t buff
  *
  * Proved: a wait for one byte: it was received, or there were as many misses as the limit.
  */
-static inline struct u16550_core_maybe_u8 uart_receive_one(struct u16550_core_driver *uart)
+static inline bool uart_receive_one(struct u16550_core_driver *uart, uint8_t *byte)
 {
-    struct u16550_core_maybe_u8 found = uart_try_receive_byte(uart);
-    if (found.is_some)
-        return uart_some_u8(found.value);
-    uint64_t number = uart->spin_limit;
-    for (uint64_t turn = 1; turn < number; turn++) {
-        struct u16550_core_maybe_u8 found2 = uart_try_receive_byte(uart);
-        if (found2.is_some)
-            return uart_some_u8(found2.value);
+    if (uart_try_receive_byte(uart, byte))
+        return true;
+    uint64_t spin_limit = uart->spin_limit;
+    for (uint64_t turn = 1; turn < spin_limit; turn++) {
+        if (uart_try_receive_byte(uart, byte))
+            return true;
     }
-    return uart_no_u8();
+    return false;
 }
 
 /*
  * Receives a byte into each slot, and waits for each.
  *
- * Each wait makes at most spin_limit polls of LSR. Error bits are saved for the next lsr,
- * and do not end the call. An empty slice makes no access. If the chip is gone, bytes of FF
- * are received: is_gone tells.
+ * Each wait makes at most spin_limit polls of LSR. Error bits are saved for the next u16550_lsr,
+ * and do not end the call. An empty array makes no access. If the chip is gone, bytes of FF are
+ * received: u16550_is_gone tells.
  *
  * Errors
  *
- * StalledError after spin_limit unsuccessful polls in a row: the remote sent nothing for
- * so long. The first done slots have the bytes that were received, and the other slots are
- * unchanged.
+ * U16550_STALLED after spin_limit unsuccessful polls in a row: the remote sent nothing for so
+ * long. The first done slots have the bytes that were received, and the other slots are unchanged.
  *
  * Proved: the slots are filled, each after its own wait; or those before the one whose wait
  * reaches the limit, as many as the error reports.
  */
-static struct uart_maybe_stalled_error
-uart_receive_bytes_exact(struct u16550_core_driver *uart, uint8_t *buffer, size_t buffer_len)
+static int
+uart_receive_bytes_exact(struct u16550_core_driver *uart, uint8_t *buffer, size_t buffer_len,
+    size_t *stalled_at)
 {
     for (size_t done = 0; done < buffer_len; done++) {
-        struct u16550_core_maybe_u8 found = uart_receive_one(uart);
-        if (!found.is_some)
-            return uart_failed_stalled_error(done);
-        buffer[done] = found.value;
+        uint8_t byte;
+        if (!uart_receive_one(uart, &byte)) {
+            *stalled_at = done;
+            return U16550_STALLED;
+        }
+        buffer[done] = byte;
     }
-    return uart_no_stalled_error();
+    return U16550_OK;
 }
 
 /*
  * Waits for one byte, and asks after each poll that fails whether to go on.
  *
- * Proved: a wait for one byte, and the answers of the caller: it was received after fewer
- * misses in a row than the limit; or the wait was in vain.
+ * Proved: a wait for one byte, and the answers of the caller: it was received after fewer misses
+ * in a row than the limit; or the wait was in vain.
  */
-static inline struct u16550_core_maybe_u8
-uart_receive_one_while(struct u16550_core_driver *uart, struct uart_patience *caller)
+static inline bool
+uart_receive_one_while(struct u16550_core_driver *uart, struct uart_patience *caller, uint8_t *byte)
 {
-    uint64_t number = uart->spin_limit;
-    for (uint64_t poll = 0; poll < number; poll++) {
-        struct u16550_core_maybe_u8 found = uart_try_receive_byte(uart);
-        if (found.is_some)
-            return uart_some_u8(found.value);
+    uint64_t spin_limit = uart->spin_limit;
+    for (uint64_t poll = 0; poll < spin_limit; poll++) {
+        if (uart_try_receive_byte(uart, byte))
+            return true;
         if (!uart_patience_keep_waiting(caller))
-            return uart_no_u8();
+            return false;
     }
-    return uart_no_u8();
+    return false;
 }
 
 /*
- * Receives a byte into each slot as receive_bytes_exact does, and waits no longer than the
+ * Receives a byte into each slot as u16550_receive_bytes_exact does, and waits no longer than the
  * caller wants: patience is asked after each poll that fails.
  *
  * So a wait can end at a time, by whatever clock the caller has. It ends after spin_limit
- * unsuccessful polls in a row too: for a wait that the clock alone ends, set a limit that is
- * not reached before. No poll follows the answer to wait no longer.
+ * unsuccessful polls in a row too: for a wait that the clock alone ends, set a limit that is not
+ * reached before. No poll follows the answer to wait no longer.
  *
- * Error bits are saved for the next lsr, and do not end the call. An empty slice makes no
+ * Error bits are saved for the next u16550_lsr, and do not end the call. An empty array makes no
  * access, and does not ask.
  *
  * Errors
  *
- * StalledError if patience answered to wait no longer, or after spin_limit unsuccessful
- * polls in a row. The first done slots have the bytes that were received, and the other
- * slots are unchanged: a further call fills them.
+ * U16550_STALLED if patience answered to wait no longer, or after spin_limit unsuccessful polls in
+ * a row. The first done slots have the bytes that were received, and the other slots are
+ * unchanged: a further call fills them.
  *
- * Proved: receive_bytes_while, with the answers of the caller: the slots are filled, each
- * byte after its own wait; or those before the one whose wait ended in vain, as many as the
- * error reports.
+ * Proved: with the answers of the caller: the slots are filled, each byte after its own wait; or
+ * those before the one whose wait ended in vain, as many as the error reports.
  */
-static struct uart_maybe_stalled_error
+static int
 uart_receive_bytes_while(struct u16550_core_driver *uart, uint8_t *buffer, size_t buffer_len,
-    struct uart_patience *patience)
+    struct uart_patience *patience, size_t *stalled_at)
 {
     for (size_t done = 0; done < buffer_len; done++) {
-        struct u16550_core_maybe_u8 found = uart_receive_one_while(uart, patience);
-        if (!found.is_some)
-            return uart_failed_stalled_error(done);
-        buffer[done] = found.value;
+        uint8_t byte;
+        if (!uart_receive_one_while(uart, patience, &byte)) {
+            *stalled_at = done;
+            return U16550_STALLED;
+        }
+        buffer[done] = byte;
     }
-    return uart_no_stalled_error();
+    return U16550_OK;
 }
 
 /*
- * Receives one byte if one is available, with the errors that LSR showed with it: reads LSR,
- * and if it shows DATA_READY, RBR.
+ * Receives one byte if one is available, with the errors that LSR showed with it: reads LSR, and
+ * if it shows DATA_READY, RBR.
  *
- * Does not wait. The error bits are saved for the next lsr too. receive_with_errors says
- * when an error is not shown.
+ * Does not wait. The error bits are saved for the next u16550_lsr too. u16550_receive_with_errors
+ * says when an error is not shown.
  *
  * Errors
  *
- * ByteReceiveError if no byte is available. RBR was not read then.
+ * false if no byte is available. RBR was not read then.
  *
- * Proved: LSR shows a received byte, which is read from DATA and returned with the errors
- * that LSR shows; or LSR shows none.
+ * Proved: LSR shows a received byte, which is read from DATA and returned with the errors that LSR
+ * shows; or LSR shows none.
  */
-static inline struct uart_maybe_received
-uart_try_receive_with_errors(struct u16550_core_driver *uart)
+static inline bool
+uart_try_receive_with_errors(struct u16550_core_driver *uart, struct u16550_received *received)
 {
     uint8_t lsr = uart_read_lsr(uart);
     if ((lsr & U16550_LSR_DATA_READY) == 0)
-        return uart_no_received();
-    return uart_some_received(uart_make_received(uart_read_register(uart, UART_DATA),
-        lsr & (U16550_LSR_OVERRUN_ERROR | U16550_LSR_PARITY_ERROR | U16550_LSR_FRAMING_ERROR |
-        U16550_LSR_BREAK_INTERRUPT)));
+        return false;
+    received->byte = uart_read_register(uart, UART_DATA);
+    received->errors = lsr & U16550_LSR_LINE_ERRORS;
+    return true;
 }
 
 /*
- * Receives bytes with their errors while some are available and there are free slots. Returns
- * how many, and leaves the slots beyond them unchanged.
+ * Receives bytes with their errors while some are available and there are free slots. Returns how
+ * many, and leaves the slots beyond them unchanged.
  *
- * The chip shows the errors of the character that is the next to be read, once: if an earlier
- * call has already looked at the first byte, its errors are missing here, and are in the next
- * lsr. Without a FIFO a byte that arrives between the two reads replaces the one that LSR
+ * The chip shows the errors of the character that is the next to be read, once: if an earlier call
+ * has already looked at the first byte, its errors are missing here, and are in the next
+ * u16550_lsr. Without a FIFO a byte that arrives between the two reads replaces the one that LSR
  * described, and the next look shows an overrun.
  *
- * An overrun tells that a character was lost, and the FIFO decides on which side of the byte
- * that it comes with. With the FIFO on, all that waited came before the lost one: it was lost
- * right behind as many characters from this byte on as the FIFO holds, or one fewer, so with a
- * FIFO of 16 behind the 15th or the 16th. These are bytes that the call returns and then those
- * that are still in the receiver. With the FIFO off, the further character replaces the one
- * that waits, so the lost one came before this byte.
+ * An overrun tells that a character was lost, and the FIFO decides on which side of the byte that
+ * it comes with. With the FIFO on, all that waited came before the lost one: it was lost right
+ * behind as many characters from this byte on as the FIFO holds, or one fewer, so with a FIFO of
+ * 16 behind the 15th or the 16th. These are bytes that the call returns and then those that are
+ * still in the receiver. With the FIFO off, the further character replaces the one that waits, so
+ * the lost one came before this byte.
  *
- * Does not wait: reads LSR before each byte, and ends when it shows none. An empty slice makes
- * no access. The error bits are saved for the next lsr too, and do not end the call.
+ * Does not wait: reads LSR before each byte, and ends when it shows none. An empty array makes no
+ * access. The error bits are saved for the next u16550_lsr too, and do not end the call.
  *
- * Proved: bytes are read from DATA, each after LSR shows it and its errors, until the slots
- * are full, or LSR shows none.
+ * Proved: bytes are read from DATA, each after LSR shows it and its errors, until the slots are
+ * full, or LSR shows none.
  */
 static size_t
 uart_receive_with_errors(struct u16550_core_driver *uart, struct u16550_received *slots,
     size_t slots_len)
 {
     for (size_t taken = 0; taken < slots_len; taken++) {
-        struct uart_maybe_received found = uart_try_receive_with_errors(uart);
-        if (!found.is_some)
+        struct u16550_received received;
+        if (!uart_try_receive_with_errors(uart, &received))
             return taken;
-        slots[taken] = found.value;
+        slots[taken] = received;
     }
     return slots_len;
 }
@@ -3373,29 +2284,30 @@ uart_receive_with_errors(struct u16550_core_driver *uart, struct u16550_received
 static inline uint16_t
 uart_config_register_dump_divisor(const struct u16550_dump *config_register_dump)
 {
-    return (uint16_t)((uint16_t)(256 * (uint16_t)config_register_dump->dlm) +
-        (uint16_t)config_register_dump->dll);
+    return (uint16_t)(((uint16_t)config_register_dump->dlm << 8) | config_register_dump->dll);
 }
 
 /*
- * Writes to the chip what a dump of its registers shows, for example after it was without
- * power: the divisor, the frame, the FIFOs, the outputs, the scratch register, and in the end
- * the interrupts, which are stored in the driver's configuration.
+ * Writes to the chip what a dump of its registers shows, for example after it was without power:
+ * the divisor, the frame, the FIFOs, the outputs, the scratch register, and in the end the
+ * interrupts, which are stored in the driver's configuration.
  *
- * Both FIFOs are emptied. If they were on, they get the level of the configuration, since a
- * chip does not show its own, and ISR tells whether they are on now (fifo_enabled). DLAB
- * and LOOP_BACK are left out. Does not wait, and discards nothing that is saved for the next
- * lsr or msr. The other fields of the configuration stay as they are.
+ * Both FIFOs are emptied. If they were on, they get the level of the configuration, since a chip
+ * does not show its own, and ISR tells whether they are on now (fifo_enabled). DLAB and LOOP_BACK
+ * are left out. Does not wait, and discards nothing that is saved for the next u16550_lsr or
+ * u16550_msr. The other fields of the configuration stay as they are.
  *
- * Proved: divisor and frame, the FIFOs, and then MCR without loopback, SPR and IER are
- * written as the dump has them. If it has the FIFOs on, ISR shows whether they are.
+ * Proved: divisor and frame, the FIFOs, and then MCR without loopback, SPR and IER are written as
+ * the dump has them. If it has the FIFOs on, ISR shows whether they are.
  */
 static void uart_restore(struct u16550_core_driver *uart, const struct u16550_dump *dump)
 {
     uart->config.interrupts = dump->ier;
     uint16_t config_register_dump_divisor = uart_config_register_dump_divisor(dump);
     uart_set_line(uart, config_register_dump_divisor, dump->lcr & (uint8_t)~U16550_LCR_DLAB);
-    bool on = uart_set_fifo(uart, uart_level_of(uart, uart_isr_fifo_enabled(dump->isr)));
+    struct u16550_core_maybe_fifo_trigger_level level;
+    level.is_some = uart_level_of(uart, uart_isr_fifo_enabled(dump->isr), &level.value);
+    bool on = uart_set_fifo(uart, level);
     uart_set_modem_control(uart, dump->mcr);
     uart_write_register(uart, UART_SPR, dump->spr);
     uart_write_register(uart, UART_IER, dump->ier);
@@ -3403,17 +2315,15 @@ static void uart_restore(struct u16550_core_driver *uart, const struct u16550_du
 }
 
 /*
- * Makes the interrupt output fall, and rise again if an interrupt is enabled and pending:
- * reads IER, writes 0, and writes back what it read.
+ * Makes the interrupt output fall, and rise again if an interrupt is enabled and pending: reads
+ * IER, writes 0, and writes back what it read.
  *
- * An interrupt controller that detects edges sees no new edge while the output stays high.
- * Call this at the end of an interrupt handler that leaves before ISR has shown that no
- * interrupt is pending, and after the interrupt was masked at a controller that forgets edges
- * meanwhile.
+ * An interrupt controller that detects edges sees no new edge while the output stays high. Call
+ * this at the end of an interrupt handler that leaves before ISR has shown that no interrupt is
+ * pending, and after the interrupt was masked at a controller that forgets edges meanwhile.
  *
- * If THR_EMPTY is enabled and the transmitter is empty, the chip raises that interrupt
- * again. Does not wait: makes three accesses. The interrupts of config are not used, and not
- * changed.
+ * If THR_EMPTY is enabled and the transmitter is empty, the chip raises that interrupt again. Does
+ * not wait: makes three accesses. The interrupts of config are not used, and not changed.
  *
  * Proved: IER is read, then 0 is written to it, and then what was read.
  */
@@ -3425,11 +2335,11 @@ static inline void uart_retrigger_interrupts(struct u16550_core_driver *uart)
 }
 
 /* Returns the number of characters. */
-static size_t uart_fifo_size_characters(uint8_t fifo_size)
+static size_t uart_fifo_depth(uint8_t fifo_size)
 {
     switch (fifo_size) {
     case U16550_CORE_FIFO_SIZE_SIXTEEN:
-        return 16;
+        return UART_FIFO_SIZE;
     case U16550_CORE_FIFO_SIZE_THIRTY_TWO:
         return 32;
     case U16550_CORE_FIFO_SIZE_SIXTY_FOUR:
@@ -3446,7 +2356,7 @@ static size_t uart_fifo_size_characters(uint8_t fifo_size)
 static inline size_t uart_burst_limit(const struct u16550_core_driver *uart, uint8_t size)
 {
     if (uart->fifo_enabled)
-        return uart_fifo_size_characters(size);
+        return uart_fifo_depth(size);
     return 1;
 }
 
@@ -3463,22 +2373,22 @@ static inline size_t
 uart_write_up_to(struct u16550_core_driver *uart, size_t limit, const uint8_t *bytes,
     size_t bytes_len)
 {
-    size_t number = limit < bytes_len ? limit : bytes_len;
-    uart_write_data(uart, bytes, number);
-    return number;
+    size_t count = limit < bytes_len ? limit : bytes_len;
+    uart_write_data(uart, bytes, count);
+    return count;
 }
 
 /*
- * Does the same as send_bytes for a chip whose transmitter FIFO has this size, whatever
+ * Does the same as u16550_send_bytes for a chip whose transmitter FIFO has this size, whatever
  * fifo_size says: sends as many bytes as it holds if the FIFO is on, else one.
  *
- * The size is taken on trust: on a chip with a smaller FIFO the bytes that do not fit are
- * lost, and nothing tells. Some chips hold more than 16 only after they were told, as a 16750
- * by enable_64_byte_fifos. set_fifo_size sets the size for all calls that send.
+ * The size is taken on trust: on a chip with a smaller FIFO the bytes that do not fit are lost,
+ * and nothing tells. Some chips hold more than 16 only after they were told, as a 16750 by
+ * u16550_enable_64_byte_fifos. u16550_set_fifo_size sets the size for all calls that send.
  *
- * Proved: nothing if there are no bytes; else a send check and, if it succeeds, bytes from
- * the front are written to DATA: as many as a FIFO of this size holds, or one if it is off.
- * The result is how many.
+ * Proved: nothing if there are no bytes; else a send check and, if it succeeds, bytes from the
+ * front are written to DATA: as many as a FIFO of this size holds, or one if it is off. The result
+ * is how many.
  */
 static inline size_t
 uart_send_burst(struct u16550_core_driver *uart, const uint8_t *buffer, size_t buffer_len,
@@ -3486,15 +2396,15 @@ uart_send_burst(struct u16550_core_driver *uart, const uint8_t *buffer, size_t b
 {
     if (buffer_len == 0)
         return 0;
-    if (uart_ready_to_send(uart) != UART_BYTE_SEND_ERROR_NONE)
+    if (uart_ready_to_send(uart) != U16550_OK)
         return 0;
     return uart_write_up_to(uart, uart_burst_limit(uart, size), buffer, buffer_len);
 }
 
 /*
- * Writes one burst from the front to DATA, and returns its length: as many bytes as certainly
- * fit. LSR shows whether the FIFO is empty, and no register shows how full it is. One byte more
- * could be lost, and nothing would tell.
+ * Writes one burst from the front to DATA, and returns its length: as many bytes as certainly fit.
+ * LSR shows whether the FIFO is empty, and no register shows how full it is. One byte more could
+ * be lost, and nothing would tell.
  *
  * A whole burst of 16, the size of most chips, is apart, since its length is known to the
  * compiler: it then counts no bytes.
@@ -3507,51 +2417,49 @@ uart_write_burst(struct u16550_core_driver *uart, const uint8_t *bytes, size_t b
         return 1;
     }
     uint8_t fifo_size = uart->fifo_size;
-    const uint8_t *found = bytes_len >= 16 ? bytes : NULL;
-    if (fifo_size == U16550_CORE_FIFO_SIZE_SIXTEEN && found != NULL) {
-        uart_write_data(uart, found, 16);
-        return 16;
+    if (fifo_size == U16550_CORE_FIFO_SIZE_SIXTEEN && bytes_len >= UART_FIFO_SIZE) {
+        uart_write_data(uart, bytes, UART_FIFO_SIZE);
+        return UART_FIFO_SIZE;
     }
-    return uart_write_up_to(uart, uart_fifo_size_characters(fifo_size), bytes, bytes_len);
+    return uart_write_up_to(uart, uart_fifo_depth(fifo_size), bytes, bytes_len);
 }
 
 /*
- * Sends bytes from the front of the slice if there is room, and returns how many: up to as
- * many as the FIFO holds (fifo_size) if it is on, else one; 0 if ready_to_send fails.
+ * Sends bytes from the front of the array if there is room, and returns how many: up to as many as
+ * the FIFO holds (fifo_size) if it is on, else one; 0 if u16550_ready_to_send fails.
  *
- * Does not wait: makes one check as ready_to_send, and one burst of writes to THR. The chip
- * reports only an empty FIFO, not how full it is, so nothing is sent until the last burst has
- * left the FIFO. Call it again with the rest of the slice to send more. An empty slice makes
- * no access.
+ * Does not wait: makes one check as u16550_ready_to_send, and one burst of writes to THR. The chip
+ * reports only an empty FIFO, not how full it is, so nothing is sent until the last burst has left
+ * the FIFO. Call it again with the rest of the array to send more. An empty array makes no access.
  *
- * Proved: nothing if there are no bytes; else a send check and, if it succeeds, bytes from
- * the front are written to DATA: as many as a FIFO of the size that is set holds, or one if
- * it is off. The result is how many.
+ * Proved: nothing if there are no bytes; else a send check and, if it succeeds, bytes from the
+ * front are written to DATA: as many as a FIFO of the size that is set holds, or one if it is off.
+ * The result is how many.
  */
 static inline size_t
 uart_send_bytes(struct u16550_core_driver *uart, const uint8_t *buffer, size_t buffer_len)
 {
     if (buffer_len == 0)
         return 0;
-    if (uart_ready_to_send(uart) != UART_BYTE_SEND_ERROR_NONE)
+    if (uart_ready_to_send(uart) != U16550_OK)
         return 0;
     return uart_write_burst(uart, buffer, buffer_len);
 }
 
 /*
- * Waits until bytes may be written. The check stands once: where code is to be small, the
- * compiler then inlines it, and drops what a constant configuration does not ask for. Waiting
- * and writing are two functions, and this one is inlined, so that each loop that sends holds
- * one copy of the wait.
+ * Waits until bytes may be written. The check stands once: where code is to be small, the compiler
+ * then inlines it, and drops what a constant configuration does not ask for. Waiting and writing
+ * are two functions, and this one is inlined, so that each loop that sends holds one copy of the
+ * wait.
  *
- * Proved: a wait for room: a check succeeded after fewer misses in a row than the limit, or
- * there were as many misses.
+ * Proved: a wait for room: a check succeeded after fewer misses in a row than the limit, or there
+ * were as many misses.
  */
 static inline bool uart_wait_to_send(struct u16550_core_driver *uart)
 {
-    uint64_t number = uart->spin_limit;
-    for (uint64_t check = 0; check < number; check++) {
-        if (uart_ready_to_send(uart) == UART_BYTE_SEND_ERROR_NONE)
+    uint64_t spin_limit = uart->spin_limit;
+    for (uint64_t check = 0; check < spin_limit; check++) {
+        if (uart_ready_to_send(uart) == U16550_OK)
             return true;
     }
     return false;
@@ -3560,59 +2468,64 @@ static inline bool uart_wait_to_send(struct u16550_core_driver *uart)
 /*
  * Waits until a burst was sent, and returns its length.
  *
- * Proved: a wait for one burst: k of the bytes were sent, or there were as many misses as
- * the limit.
+ * Proved: a wait for one burst: k of the bytes were sent, or there were as many misses as the
+ * limit.
  */
-static inline struct uart_maybe_u64
-uart_send_some(struct u16550_core_driver *uart, const uint8_t *bytes, size_t bytes_len)
+static inline bool
+uart_send_some(struct u16550_core_driver *uart, const uint8_t *bytes, size_t bytes_len,
+    size_t *count)
 {
     if (!uart_wait_to_send(uart))
-        return uart_no_u64();
-    return uart_some_u64(uart_write_burst(uart, bytes, bytes_len));
+        return false;
+    *count = uart_write_burst(uart, bytes, bytes_len);
+    return true;
 }
 
 /*
- * Sends all of the bytes, and waits for room before each burst: of up to as many bytes as the
- * FIFO holds (fifo_size) if it is on, else of one.
+ * Sends all of the bytes, and waits for room before each burst: of up to as many bytes as the FIFO
+ * holds (fifo_size) if it is on, else of one.
  *
- * Each wait makes at most spin_limit checks as ready_to_send. It returns when the last
- * burst is in THR or the FIFO; flush of embedded_io waits until all
- * of it has left the chip. An empty slice makes no access.
+ * Each wait makes at most spin_limit checks as u16550_ready_to_send. It returns when the last
+ * burst is in THR or the FIFO; u16550_flush waits until all of it has left the chip. An empty
+ * array makes no access.
  *
  * Errors
  *
- * StalledError after spin_limit unsuccessful checks in a row: the chip is slower than the
- * limit allows, or CTS is checked and the remote is not clear to send. The first done bytes
- * were written to the chip.
+ * U16550_STALLED after spin_limit unsuccessful checks in a row: the chip is slower than the limit
+ * allows, or CTS is checked and the remote is not clear to send. The first done bytes were written
+ * to the chip.
  *
- * Proved: all bytes, burst by burst, each burst after its own wait; or those before the
- * burst whose wait reaches the limit, as many as the error reports.
+ * Proved: all bytes, burst by burst, each burst after its own wait; or those before the burst
+ * whose wait reaches the limit, as many as the error reports.
  */
-static struct uart_maybe_stalled_error
-uart_send_bytes_exact(struct u16550_core_driver *uart, const uint8_t *bytes, size_t bytes_len)
+static int
+uart_send_bytes_exact(struct u16550_core_driver *uart, const uint8_t *bytes, size_t bytes_len,
+    size_t *stalled_at)
 {
     size_t done = 0;
     while (done < bytes_len) {
-        struct uart_maybe_u64 found = uart_send_some(uart, &bytes[done], bytes_len - done);
-        if (!found.is_some)
-            return uart_failed_stalled_error(done);
-        done += (size_t)found.value;
+        size_t count;
+        if (!uart_send_some(uart, &bytes[done], bytes_len - done, &count)) {
+            *stalled_at = done;
+            return U16550_STALLED;
+        }
+        done += count;
     }
-    return uart_no_stalled_error();
+    return U16550_OK;
 }
 
 /*
  * Waits until bytes may be written, and asks after each check that fails whether to go on.
  *
- * Proved: a wait for room, and the answers of the caller: a check succeeded after fewer
- * misses in a row than the limit; or the wait was in vain.
+ * Proved: a wait for room, and the answers of the caller: a check succeeded after fewer misses in
+ * a row than the limit; or the wait was in vain.
  */
 static inline bool
 uart_wait_to_send_while(struct u16550_core_driver *uart, struct uart_patience *patience)
 {
-    uint64_t number = uart->spin_limit;
-    for (uint64_t turn = 0; turn < number; turn++) {
-        if (uart_ready_to_send(uart) == UART_BYTE_SEND_ERROR_NONE)
+    uint64_t spin_limit = uart->spin_limit;
+    for (uint64_t turn = 0; turn < spin_limit; turn++) {
+        if (uart_ready_to_send(uart) == U16550_OK)
             return true;
         if (!uart_patience_keep_waiting(patience))
             return false;
@@ -3621,34 +2534,35 @@ uart_wait_to_send_while(struct u16550_core_driver *uart, struct uart_patience *p
 }
 
 /*
- * Sends all of the bytes as send_bytes_exact does, and waits no longer than the caller
+ * Sends all of the bytes as u16550_send_bytes_exact does, and waits no longer than the caller
  * wants: patience is asked after each check that fails.
  *
  * So a wait can end at a time, by whatever clock the caller has. It ends after spin_limit
- * unsuccessful checks in a row too: for a wait that the clock alone ends, set a limit that is
- * not reached before. No check follows the answer to wait no longer.
+ * unsuccessful checks in a row too: for a wait that the clock alone ends, set a limit that is not
+ * reached before. No check follows the answer to wait no longer.
  *
  * Errors
  *
- * StalledError if patience answered to wait no longer, or after spin_limit unsuccessful
- * checks in a row. The first done bytes were written to the chip, and the others were not:
- * a further call sends them.
+ * U16550_STALLED if patience answered to wait no longer, or after spin_limit unsuccessful checks
+ * in a row. The first done bytes were written to the chip, and the others were not: a further call
+ * sends them.
  *
- * Proved: send_bytes_while, with the answers of the caller: all bytes, burst by burst, each
- * burst after its own wait; or those before the burst whose wait ended in vain, as many as
- * the error reports.
+ * Proved: with the answers of the caller: all bytes, burst by burst, each burst after its own
+ * wait; or those before the burst whose wait ended in vain, as many as the error reports.
  */
-static struct uart_maybe_stalled_error
+static int
 uart_send_bytes_while(struct u16550_core_driver *uart, const uint8_t *bytes, size_t bytes_len,
-    struct uart_patience *patience)
+    struct uart_patience *patience, size_t *stalled_at)
 {
     size_t done = 0;
     while (done < bytes_len) {
-        if (!uart_wait_to_send_while(uart, patience))
-            return uart_failed_stalled_error(done);
+        if (!uart_wait_to_send_while(uart, patience)) {
+            *stalled_at = done;
+            return U16550_STALLED;
+        }
         done += uart_write_burst(uart, &bytes[done], bytes_len - done);
     }
-    return uart_no_stalled_error();
+    return U16550_OK;
 }
 
 /* Writes the urgent byte to DATA, if there is one, and returns how many bytes that were. */
@@ -3663,8 +2577,8 @@ uart_write_urgent(struct u16550_core_driver *uart, struct u16550_core_maybe_u8 u
 }
 
 /*
- * Writes one burst to DATA: the urgent byte, and then bytes from the front of both parts.
- * Returns its length.
+ * Writes one burst to DATA: the urgent byte, and then bytes from the front of both parts. Returns
+ * its length.
  */
 static inline size_t
 uart_write_gathered(struct u16550_core_driver *uart, struct u16550_core_maybe_u8 urgent,
@@ -3677,33 +2591,31 @@ uart_write_gathered(struct u16550_core_driver *uart, struct u16550_core_maybe_u8
 }
 
 /*
- * Does the same as send_bytes for bytes that a queue holds: an urgent byte, if there is one,
- * and then the bytes of both parts, as VecDeque_as_slices gives them. Returns how many of
+ * Does the same as u16550_send_bytes for bytes that a queue holds: an urgent byte, if there is
+ * one, and then the bytes of both parts, as uart_byte_queue_parts gives them. Returns how many of
  * these bytes were sent, from the front.
  *
- * They are one burst, after one check as ready_to_send, wherever the parts meet. So the
- * queue need not copy bytes into one slice, however large the FIFO is. If there are no bytes,
- * it makes no access.
+ * They are one burst, after one check as u16550_ready_to_send, wherever the parts meet. So the
+ * queue need not copy bytes into one array, however large the FIFO is. If there are no bytes, it
+ * makes no access.
  *
- * Proved: nothing if there are no bytes; else a send check and, if it succeeds, bytes from
- * the front are written to DATA: as many as a FIFO of the size that is set holds, or one if
- * it is off. The result is how many.
+ * Proved: nothing if there are no bytes; else a send check and, if it succeeds, bytes from the
+ * front are written to DATA: as many as a FIFO of the size that is set holds, or one if it is off.
+ * The result is how many.
  */
 static size_t
 uart_send_gathered(struct u16550_core_driver *uart, struct u16550_core_maybe_u8 urgent,
     const uint8_t *first, size_t first_len, const uint8_t *second, size_t second_len)
 {
-    if (!urgent.is_some &&
-        ((second_len == 0) || (uart_fifo_size_characters(uart->fifo_size) <= first_len))) {
+    if (!urgent.is_some && ((second_len == 0) || (uart_fifo_depth(uart->fifo_size) <= first_len)))
         return uart_send_bytes(uart, first, first_len);
-    }
-    if (uart_ready_to_send(uart) != UART_BYTE_SEND_ERROR_NONE)
+    if (uart_ready_to_send(uart) != U16550_OK)
         return 0;
     return uart_write_gathered(uart, urgent, first, first_len, second, second_len);
 }
 
 /* Returns LCR with a break or without. */
-static inline uint8_t uart_break_of(uint8_t lcr, bool on)
+static inline uint8_t uart_lcr_with_break(uint8_t lcr, bool on)
 {
     if (on)
         return lcr | U16550_LCR_SET_BREAK;
@@ -3711,22 +2623,22 @@ static inline uint8_t uart_break_of(uint8_t lcr, bool on)
 }
 
 /*
- * Begins or ends a break: reads LCR, and writes it with SET_BREAK set or cleared, the other
- * bits as they were.
+ * Begins or ends a break: reads LCR, and writes it with SET_BREAK set or cleared, the other bits
+ * as they were.
  *
- * In a break the line is held at 0, whatever the transmitter sends. So a character that is
- * going out is lost: wait until is_idle is true. The remote sees a break once the line was 0
- * for a whole character. Does not wait: the caller ends the break after that time.
+ * In a break the line is held at 0, whatever the transmitter sends. So a character that is going
+ * out is lost: wait until u16550_is_idle is true. The remote sees a break once the line was 0 for
+ * a whole character. Does not wait: the caller ends the break after that time.
  *
  * Proved: LCR is read, and written with the break set or cleared.
  */
 static inline void uart_set_break(struct u16550_core_driver *uart, bool on)
 {
-    uart_write_register(uart, UART_LCR, uart_break_of(uart_lcr(uart), on));
+    uart_write_register(uart, UART_LCR, uart_lcr_with_break(uart_lcr(uart), on));
 }
 
 /* Returns MCR with an output asserted or clear. */
-static inline uint8_t uart_outputs_of(uint8_t mcr, uint8_t output, bool on)
+static inline uint8_t uart_mcr_with_output(uint8_t mcr, uint8_t output, bool on)
 {
     if (on)
         return mcr | output;
@@ -3736,20 +2648,18 @@ static inline uint8_t uart_outputs_of(uint8_t mcr, uint8_t output, bool on)
 /*
  * Asserts or clears one output.
  *
- * Proved: set_rts, set_dtr: MCR is read, and written with this bit set or cleared, without
- * loopback.
+ * Proved: MCR is read, and written with this bit set or cleared, without loopback.
  */
 static inline void uart_set_output(struct u16550_core_driver *uart, uint8_t output, bool on)
 {
-    uart_set_modem_control(uart, uart_outputs_of(uart_mcr(uart), output, on));
+    uart_set_modem_control(uart, uart_mcr_with_output(uart_mcr(uart), output, on));
 }
 
 /*
  * Asserts or clears DTR: reads MCR, and writes it with this bit so, the other outputs as they
- * were, and loopback off, as in set_modem_control.
+ * were, and loopback off, as in u16550_set_modem_control.
  *
- * Proved: set_rts, set_dtr: MCR is read, and written with this bit set or cleared, without
- * loopback.
+ * Proved: MCR is read, and written with this bit set or cleared, without loopback.
  */
 static inline void uart_set_dtr(struct u16550_core_driver *uart, bool on)
 {
@@ -3760,15 +2670,15 @@ static inline void uart_set_dtr(struct u16550_core_driver *uart, bool on)
  * Sets which size the FIFOs are taken to have. Makes no access, and changes nothing else.
  *
  * From then on all that sends puts as many bytes into one burst as such a FIFO holds, if
- * fifo_enabled. So a larger size takes fewer looks and fewer interrupts for the same bytes.
- * No other call changes the size: init and attach keep it.
+ * fifo_enabled. So a larger size takes fewer looks and fewer interrupts for the same bytes. No
+ * other call changes the size: u16550_init and u16550_attach keep it.
  *
- * The size is taken on trust. If it is larger than the chip's, the bytes that do not fit are
- * lost, and nothing tells. Some chips hold more than 16 characters only after they were told:
- * a 16750 by enable_64_byte_fifos, others by a register of their own. find_fifo_size finds
- * the size of FIFOs as they are set up; a chip of DesignWare may show it in CPR.
+ * The size is taken on trust. If it is larger than the chip's, the bytes that do not fit are lost,
+ * and nothing tells. Some chips hold more than 16 characters only after they were told: a 16750 by
+ * u16550_enable_64_byte_fifos, others by a register of their own. u16550_find_fifo_size finds the
+ * size of FIFOs as they are set up; a chip of DesignWare may show it in CPR.
  *
- * Proved: no access, and this change to the fields.
+ * Proved: no access is made, and nothing else of the driver changes.
  */
 static inline void uart_set_fifo_size(struct u16550_core_driver *uart, uint8_t size)
 {
@@ -3779,7 +2689,7 @@ static inline void uart_set_fifo_size(struct u16550_core_driver *uart, uint8_t s
  * Stores the clock, the baud rate and the frame. The other fields of the configuration are for
  * registers that a change of the frame does not write.
  *
- * Proved: no access, and this change to the fields.
+ * Proved: no access is made, and nothing else of the driver changes.
  */
 static inline void
 uart_store_frame(struct u16550_core_driver *uart, const struct u16550_core_config *config)
@@ -3797,88 +2707,91 @@ static inline void
 uart_write_frame(struct u16550_core_driver *uart, uint16_t divisor, uint8_t frame)
 {
     uart_write_register(uart, UART_LCR, frame | U16550_LCR_DLAB);
-    uart_write_register(uart, UART_DATA, (uint8_t)(uint16_t)(divisor % 256));
-    uart_write_register(uart, UART_IER, (uint8_t)(uint16_t)(divisor / 256));
+    uart_write_register(uart, UART_DLL, (uint8_t)(divisor & 0xff));
+    uart_write_register(uart, UART_DLM, (uint8_t)(divisor >> 8));
     uart_write_register(uart, UART_LCR, frame);
 }
 
 /*
  * Changes the baud rate and the frame to those of this configuration, which must be computable
- * (Config_is_computable), and stores them in the driver's configuration.
+ * (uart_config_is_computable), and stores them in the driver's configuration.
  *
- * Writes LCR, DLL, DLM and LCR, and nothing else. So the FIFOs, the outputs to the modem and
- * the interrupts stay as they are, no byte is discarded, and a break ends. Does not wait.
+ * Writes LCR, DLL, DLM and LCR, and nothing else. So the FIFOs, the outputs to the modem and the
+ * interrupts stay as they are, no byte is discarded, and a break ends. Does not wait.
  *
  * A character that is on the line meanwhile is corrupted, since its rest has the new rate and
- * frame: one that goes out, and one that comes in. Bytes that wait in the transmitter are sent
- * in the new frame. So wait before, until is_idle is true or with flush.
+ * frame: one that goes out, and one that comes in. Bytes that wait in the transmitter are sent in
+ * the new frame. So wait before, until u16550_is_idle is true or with u16550_flush.
  *
- * While DLAB is set, offsets 0 and 1 are the latch, as in dll_dlm, so nothing else may
+ * While DLAB is set, offsets 0 and 1 are the latch, as in u16550_dll_dlm, so nothing else may
  * access the chip. Of the configuration interrupts, fifo_trigger_level and
  * check_cts_before_sending are not used.
  *
  * Errors
  *
- * - NonInteger if the divisor is not a whole number: Config_nearest finds the nearest.
- * - OutOfRange if it does not fit into the divisor latch.
+ * - U16550_FRAME_NON_INTEGER_DIVISOR if the divisor is not a whole number: u16550_nearest finds
+ *   the nearest.
+ * - U16550_FRAME_DIVISOR_OUT_OF_RANGE if it does not fit into the divisor latch.
  *
  * No access was made then, and nothing changed.
  *
- * Proved: clock, baud rate and frame are stored, and written to the divisor latch and to
- * LCR; or there is no divisor, and nothing is done.
+ * Proved: clock, baud rate and frame are stored, and written to the divisor latch and to LCR; or
+ * there is no divisor, and nothing is done.
  */
-static struct uart_invalid_divisor_error
-uart_set_frame(struct u16550_core_driver *uart, const struct u16550_core_config *config)
+static int uart_set_frame(struct u16550_core_driver *uart, const struct u16550_core_config *config)
 {
-    uint32_t baud_rate = uart_baud_rate_to_integer(config->baud_rate);
-    struct uart_u16_or_invalid_divisor_error outcome =
-        uart_calc_divisor(config->frequency, baud_rate, config->prescaler_division_factor);
-    if (outcome.error.kind != UART_INVALID_DIVISOR_ERROR_NONE)
-        return outcome.error;
+    uint32_t baud_rate = uart_baud_rate_bps(config->baud_rate);
+    uint16_t divisor;
+    int status =
+        uart_calc_divisor(config->frequency, baud_rate, config->prescaler_division_factor,
+        &divisor);
+    if (status != U16550_OK)
+        return status;
     uart_store_frame(uart, config);
-    uart_write_frame(uart, outcome.value, uart_frame_of(config));
-    return uart_invalid_divisor_error_none();
+    uart_write_frame(uart, divisor, uart_lcr_of_config(config));
+    return U16550_OK;
 }
 
 /*
- * Waits until all that was sent is on the line, and then changes the baud rate and the frame,
- * as set_frame does. The configuration must be computable (Config_is_computable).
+ * Waits until all that was sent is on the line, and then changes the baud rate and the frame, as
+ * u16550_set_frame does. The configuration must be computable (uart_config_is_computable).
  *
- * Polls LSR at most spin_limit times; error bits are saved for the next lsr. So no
- * character is broken that goes out. One that comes in meanwhile is: agree with the remote
- * when to change.
+ * Polls LSR at most spin_limit times; error bits are saved for the next u16550_lsr. So no
+ * character is broken that goes out. One that comes in meanwhile is: agree with the remote when to
+ * change.
  *
  * Errors
  *
- * - InvalidBaudRate if the divisor is not a whole number, or does not fit into the divisor
- *   latch. No access was made, and nothing changed.
- * - Stalled if the transmitter was not empty after spin_limit polls. Nothing was written,
- *   and the driver's configuration is as it was.
+ * - U16550_FRAME_NON_INTEGER_DIVISOR or U16550_FRAME_DIVISOR_OUT_OF_RANGE if the divisor is not a
+ *   whole number, or does not fit into the divisor latch. No access was made, and nothing changed.
+ * - U16550_FRAME_STALLED if the transmitter was not empty after spin_limit polls. Nothing was
+ *   written, and the driver's configuration is as it was.
  *
- * Proved: after a wait for an empty transmitter all is as in set_frame; or there is no
+ * Proved: after a wait for an empty transmitter all is as in u16550_set_frame; or there is no
  * divisor, and nothing is done; or the wait reaches the limit, and nothing is written.
  */
-static struct uart_frame_error
+static int
 uart_set_frame_when_idle(struct u16550_core_driver *uart, const struct u16550_core_config *config)
 {
-    uint32_t baud_rate = uart_baud_rate_to_integer(config->baud_rate);
-    struct uart_u16_or_invalid_divisor_error outcome =
-        uart_calc_divisor(config->frequency, baud_rate, config->prescaler_division_factor);
-    if (outcome.error.kind != UART_INVALID_DIVISOR_ERROR_NONE)
-        return uart_frame_error_invalid_baud_rate(outcome.error);
+    uint32_t baud_rate = uart_baud_rate_bps(config->baud_rate);
+    uint16_t divisor;
+    int status =
+        uart_calc_divisor(config->frequency, baud_rate, config->prescaler_division_factor,
+        &divisor);
+    if (status != U16550_OK)
+        return status;
     if (!uart_wait_for(uart, U16550_LSR_TRANSMITTER_EMPTY))
-        return uart_frame_error_stalled();
+        return U16550_FRAME_STALLED;
     uart_store_frame(uart, config);
-    uart_write_frame(uart, outcome.value, uart_frame_of(config));
-    return uart_frame_error_none();
+    uart_write_frame(uart, divisor, uart_lcr_of_config(config));
+    return U16550_OK;
 }
 
 /*
  * Asserts or clears RTS: reads MCR, and writes it with this bit so, the other outputs as they
- * were, and loopback off, as in set_modem_control.
+ * were, and loopback off, as in u16550_set_modem_control.
  *
- * Proved: set_rts, set_dtr: MCR is read, and written with this bit set or cleared, without
- * loopback.
+ * Proved: MCR is read, and written with this bit set or cleared, without loopback.
  */
 static inline void uart_set_rts(struct u16550_core_driver *uart, bool on)
 {
@@ -3889,12 +2802,12 @@ static inline void uart_set_rts(struct u16550_core_driver *uart, bool on)
  * Sets how many unsuccessful polls in a row a wait makes before it returns an error. Makes no
  * access, and changes nothing else.
  *
- * Choose it by the time of one poll: at 9,600 baud a full FIFO of 16 and the shift register
- * hold 17 characters of 10 bits, which take about 17.7 ms to send. A larger FIFO takes as much
- * longer as it is larger. A limit near 2^64 is a wait without end in practice: at a
- * microsecond a poll it takes more than half a million years.
+ * Choose it by the time of one poll: at 9,600 baud a full FIFO of 16 and the shift register hold
+ * 17 characters of 10 bits, which take about 17.7 ms to send. A larger FIFO takes as much longer
+ * as it is larger. A limit near 2^64 is a wait without end in practice: at a microsecond a poll it
+ * takes more than half a million years.
  *
- * Proved: no access, and this change to the fields.
+ * Proved: no access is made, and nothing else of the driver changes.
  */
 static inline void uart_set_spin_limit(struct u16550_core_driver *uart, uint64_t limit)
 {
@@ -3908,24 +2821,25 @@ static inline void uart_set_spin_limit(struct u16550_core_driver *uart, uint64_t
  *
  * Errors
  *
- * FifosOffError if the FIFOs are off (fifo_enabled). No access was made, and nothing
- * changed: a write that turns the FIFOs on empties them, which init does.
+ * false if the FIFOs are off (fifo_enabled). No access was made, and nothing changed: a write that
+ * turns the FIFOs on empties them, which u16550_init does.
  *
- * Proved: with the FIFOs on, the level is stored and written to FCR; with them off, nothing
- * is done, and the result is the error.
+ * Proved: with the FIFOs on, the level is stored and written to FCR; with them off, nothing is
+ * done, and the result is the error.
  */
 static inline bool uart_set_trigger_level(struct u16550_core_driver *uart, uint8_t level)
 {
     if (!uart->fifo_enabled)
         return false;
-    uart->config.fifo_trigger_level = uart_some_fifo_trigger_level(level);
-    uart_write_register(uart, UART_FCR, uart_level_control_of(level));
+    uart->config.fifo_trigger_level.is_some = true;
+    uart->config.fifo_trigger_level.value = level;
+    uart_write_register(uart, UART_FCR, uart_fcr_of_running_fifos(level));
     return true;
 }
 
 /*
- * Returns how many unsuccessful polls in a row a wait makes before it returns an error. Makes
- * no access.
+ * Returns how many unsuccessful polls in a row a wait makes before it returns an error. Makes no
+ * access.
  */
 static inline uint64_t uart_spin_limit(const struct u16550_core_driver *uart)
 {
@@ -3935,16 +2849,7 @@ static inline uint64_t uart_spin_limit(const struct u16550_core_driver *uart)
 /* Returns the state of the driver, as a copy. Makes no access. */
 static struct uart_driver_state uart_state(const struct u16550_core_driver *uart)
 {
-    struct u16550_core_config config;
-    config.interrupts = uart->config.interrupts;
-    config.frequency = uart->config.frequency;
-    config.prescaler_division_factor = uart->config.prescaler_division_factor;
-    config.fifo_trigger_level = uart->config.fifo_trigger_level;
-    config.baud_rate = uart->config.baud_rate;
-    config.data_bits = uart->config.data_bits;
-    config.extra_stop_bits = uart->config.extra_stop_bits;
-    config.parity = uart->config.parity;
-    config.check_cts_before_sending = uart->config.check_cts_before_sending;
+    struct u16550_core_config config = uart->config;
     struct uart_driver_state driver_state;
     driver_state.config = config;
     driver_state.fifo_enabled = uart->fifo_enabled;
@@ -3956,26 +2861,23 @@ static struct uart_driver_state uart_state(const struct u16550_core_driver *uart
 }
 
 /*
- * Sends one byte if there is room: makes one check as ready_to_send, and one write to THR.
+ * Sends one byte if there is room: makes one check as u16550_ready_to_send, and one write to THR.
  *
  * Does not wait.
  *
  * Errors
  *
- * NoCapacity if the byte was not sent, whatever the cause: also if the remote is not clear
- * to send.
+ * U16550_SEND_NO_CAPACITY if the byte was not sent, whatever the cause: also if the remote is not
+ * clear to send.
  *
- * Proved: the accesses of send_bytes for this one byte, which is sent exactly if the result
- * is Ok; the only error is NoCapacity.
+ * Proved: the accesses of u16550_send_bytes for this one byte, which is sent exactly if the result
+ * is U16550_OK; the only error is U16550_SEND_NO_CAPACITY.
  */
-static inline enum uart_byte_send_error
-uart_try_send_byte(struct u16550_core_driver *uart, uint8_t byte)
+static inline int uart_try_send_byte(struct u16550_core_driver *uart, uint8_t byte)
 {
-    struct uart_bytes1 bytes;
-    bytes.bytes[0] = byte;
-    if (uart_send_bytes(uart, bytes.bytes, 1) == 0)
-        return UART_BYTE_SEND_ERROR_NO_CAPACITY;
-    return UART_BYTE_SEND_ERROR_NONE;
+    if (uart_send_bytes(uart, &byte, 1) == 0)
+        return U16550_SEND_NO_CAPACITY;
+    return U16550_OK;
 }
 
 #ifndef U16550_OMIT_LOOPBACK
@@ -3985,192 +2887,184 @@ uart_try_send_byte(struct u16550_core_driver *uart, uint8_t byte)
  * Proved: the test byte: it is sent and comes back; or it is not sent; or the wait for it is
  * unsuccessful; or another byte comes back.
  */
-static struct uart_loopback_error uart_exchange_byte(struct u16550_core_driver *uart)
+static int
+uart_exchange_byte(struct u16550_core_driver *uart, struct uart_loopback_failure *failure)
 {
-    enum uart_byte_send_error error = uart_try_send_byte(uart, 66);
-    if (error != UART_BYTE_SEND_ERROR_NONE)
-        return uart_loopback_error_send_error(error);
-    struct u16550_core_maybe_u8 found = uart_receive_one(uart);
-    if (!found.is_some)
-        return uart_loopback_error_stalled();
-    if (found.value == 66)
-        return uart_loopback_error_none();
-    return uart_loopback_error_unexpected_loopback_byte(66, found.value);
+    int error = uart_try_send_byte(uart, UART_TEST_BYTE);
+    if (error != U16550_OK)
+        return uart_loopback_error_of(error);
+    uint8_t actual;
+    if (!uart_receive_one(uart, &actual))
+        return U16550_LOOPBACK_STALLED;
+    if (actual == UART_TEST_BYTE)
+        return U16550_OK;
+    failure->expected = UART_TEST_BYTE;
+    failure->actual = actual;
+    return U16550_LOOPBACK_UNEXPECTED_BYTE;
 }
 
 /*
  * Sends the whole test message, and then receives it. A FIFO has room for all of it.
  *
- * Proved: what came back for these bytes, or nothing if a wait was unsuccessful, with a FIFO
- * and without; the one of the two that fits.
+ * Proved: what came back for these bytes, or nothing if a wait was unsuccessful, with a FIFO and
+ * without; the one of the two that fits.
  */
-static struct uart_maybe_bytes16 uart_echo_whole(struct u16550_core_driver *uart)
+static bool uart_echo_whole(struct u16550_core_driver *uart, struct uart_bytes16 *actual)
 {
-    if (uart_send_bytes_exact(uart, uart_echo_whole_bytes, 16).is_error)
-        return uart_no_bytes16();
-    struct uart_bytes16 actual;
-    uart_fill_bytes(actual.bytes, 0, 16);
-    if (uart_receive_bytes_exact(uart, actual.bytes, 16).is_error)
-        return uart_no_bytes16();
-    return uart_some_bytes16(actual);
+    size_t stalled_at;
+    if (uart_send_bytes_exact(uart, uart_test_message, 16, &stalled_at) != U16550_OK)
+        return false;
+    struct uart_bytes16 found_actual;
+    uart_fill_bytes(found_actual.bytes, 0, 16);
+    if (uart_receive_bytes_exact(uart, found_actual.bytes, 16, &stalled_at) != U16550_OK)
+        return false;
+    *actual = found_actual;
+    return true;
 }
 
 /*
- * Sends a byte, and waits for the byte that returns. On a real chip it returns after the time
- * of a character, and not at once.
+ * Sends a byte, and waits for the byte that returns. On a real chip it returns after the time of a
+ * character, and not at once.
  *
  * Proved: what came back for a byte, or nothing if a wait was unsuccessful.
  */
-static inline struct u16550_core_maybe_u8 uart_echo(struct u16550_core_driver *uart, uint8_t byte)
+static inline bool uart_echo(struct u16550_core_driver *uart, uint8_t byte, uint8_t *byte_of)
 {
-    struct uart_bytes1 bytes;
-    bytes.bytes[0] = byte;
-    if (!uart_send_some(uart, bytes.bytes, 1).is_some)
-        return uart_no_u8();
-    return uart_receive_one(uart);
+    size_t count;
+    return uart_send_some(uart, &byte, 1, &count) && uart_receive_one(uart, byte_of);
 }
 
 /*
- * Sends the test message byte by byte, and waits for each to return. Without FIFO the receiver
- * has room for one character, and the next would replace it.
+ * Sends the test message byte by byte, and waits for each to return. Without FIFO the receiver has
+ * room for one character, and the next would replace it.
  */
-static struct uart_maybe_bytes16 uart_echo_each(struct u16550_core_driver *uart)
+static bool uart_echo_each(struct u16550_core_driver *uart, struct uart_bytes16 *actual)
 {
-    struct uart_bytes16 actual;
-    uart_fill_bytes(actual.bytes, 0, 16);
+    struct uart_bytes16 found_actual;
+    uart_fill_bytes(found_actual.bytes, 0, 16);
     for (size_t i = 0; i < 16; i++) {
-        struct u16550_core_maybe_u8 found = uart_echo(uart, uart_echo_whole_bytes[i]);
-        if (!found.is_some)
-            return uart_no_bytes16();
-        actual.bytes[i] = found.value;
+        uint8_t byte;
+        if (!uart_echo(uart, uart_test_message[i], &byte))
+            return false;
+        found_actual.bytes[i] = byte;
     }
-    return uart_some_bytes16(actual);
+    *actual = found_actual;
+    return true;
 }
 
 /* Sends and receives the test message: as a whole if the FIFO is on, else byte by byte. */
-static inline struct uart_maybe_bytes16 uart_echo_message(struct u16550_core_driver *uart)
+static inline bool uart_echo_message(struct u16550_core_driver *uart, struct uart_bytes16 *actual)
 {
     if (uart->fifo_enabled)
-        return uart_echo_whole(uart);
-    return uart_echo_each(uart);
+        return uart_echo_whole(uart, actual);
+    return uart_echo_each(uart, actual);
 }
 
 /*
  * Sends the test message, and compares what returns.
  *
- * Proved: the test message: sent and received; or a wait that reaches the limit; or other
- * bytes received.
+ * Proved: the test message: sent and received; or a wait that reaches the limit; or other bytes
+ * received.
  */
-static struct uart_loopback_error uart_exchange_message(struct u16550_core_driver *uart)
+static int
+uart_exchange_message(struct u16550_core_driver *uart, struct uart_loopback_failure *failure)
 {
-    struct uart_maybe_bytes16 found = uart_echo_message(uart);
-    if (!found.is_some)
-        return uart_loopback_error_stalled();
-    struct uart_bytes16 actual = found.value;
-    if (!uart_same_bytes(actual.bytes, uart_echo_whole_bytes, 16)) {
-        struct uart_bytes16 bytes;
-        bytes.bytes[0] = 104;
-        bytes.bytes[1] = 101;
-        bytes.bytes[2] = 108;
-        bytes.bytes[3] = 108;
-        bytes.bytes[4] = 111;
-        bytes.bytes[5] = 32;
-        bytes.bytes[6] = 119;
-        bytes.bytes[7] = 111;
-        bytes.bytes[8] = 114;
-        bytes.bytes[9] = 108;
-        bytes.bytes[10] = 100;
-        bytes.bytes[11] = 33;
-        bytes.bytes[12] = 49;
-        bytes.bytes[13] = 51;
-        bytes.bytes[14] = 51;
-        bytes.bytes[15] = 55;
-        return uart_loopback_error_unexpected_loopback_msg(bytes, actual);
+    struct uart_bytes16 actual;
+    if (!uart_echo_message(uart, &actual))
+        return U16550_LOOPBACK_STALLED;
+    if (!uart_same_bytes(actual.bytes, uart_test_message, 16)) {
+        uart_copy_bytes(failure->expected_msg.bytes, uart_test_message, 16);
+        failure->actual_msg = actual;
+        return U16550_LOOPBACK_UNEXPECTED_MSG;
     }
-    return uart_loopback_error_none();
+    return U16550_OK;
 }
 
 /*
  * Makes the test itself, while the device is in loopback.
  *
- * Proved: in loopback: bytes from before the test taken, the byte, the message, up to the
- * first error.
+ * Proved: in loopback: bytes from before the test taken, the byte, the message, up to the first
+ * error.
  */
-static inline struct uart_loopback_error uart_exchange(struct u16550_core_driver *uart)
+static inline int
+uart_exchange(struct u16550_core_driver *uart, struct uart_loopback_failure *failure)
 {
     if (!uart_drain_received(uart))
-        return uart_loopback_error_stalled();
-    struct uart_loopback_error error = uart_exchange_byte(uart);
-    if (error.kind != UART_LOOPBACK_ERROR_NONE)
-        return error;
-    return uart_exchange_message(uart);
+        return U16550_LOOPBACK_STALLED;
+    int status = uart_exchange_byte(uart, failure);
+    if (status != U16550_OK)
+        return status;
+    return uart_exchange_message(uart, failure);
 }
 
 /*
- * Tests whether bytes that are sent return while the device is in loopback: first one byte,
- * and then a message of 16.
+ * Tests whether bytes that are sent return while the device is in loopback: first one byte, and
+ * then a message of 16.
  *
- * Call it after init, to find out whether the chip works. Send nothing else while it runs.
- * In loopback the chip connects its transmitter to its receiver, and nothing goes out on the
- * line. For a device without loopback do not call it; wrap the driver with
- * Uart16550Tty_from_inner instead of constructing a terminal.
+ * Call it after u16550_init, to find out whether the chip works. Send nothing else while it runs.
+ * In loopback the chip connects its transmitter to its receiver, and nothing goes out on the line.
+ * For a device without loopback do not call it.
  *
- * Waits until the transmitter is empty, and then for each byte, at most spin_limit polls
- * each time. Received bytes and error bits that are found in loopback are discarded; error
- * bits that were saved before it stay saved. The FIFOs are reset and set up again, and
- * fifo_enabled is read again. Afterwards MCR and IER are as before, also on a chip that was
- * in loopback already.
+ * Waits until the transmitter is empty, and then for each byte, at most spin_limit polls each
+ * time. Received bytes and error bits that are found in loopback are discarded; error bits that
+ * were saved before it stay saved. The FIFOs are reset and set up again, and fifo_enabled is read
+ * again. Afterwards MCR and IER are as before, also on a chip that was in loopback already.
  *
  * The modem lines before and after the test are compared, and their changes saved for the next
- * msr; of RI only its trailing edge. A line that changed and changed back in between is not
+ * u16550_msr; of RI only its trailing edge. A line that changed and changed back in between is not
  * reported.
  *
  * Whole bytes are compared. With 5 or 6 data bits a chip that cuts characters fails the test.
  *
  * Errors
  *
- * - Stalled after spin_limit unsuccessful polls in a row. If the first wait failed,
- *   nothing was written, and what the polls cleared is saved. Later a test byte may still be
- *   in the transmitter, and is then sent after the test.
- * - SendError if the device does not accept the test byte. Its cause is always NoCapacity.
- * - UnexpectedLoopbackByte, UnexpectedLoopbackMsg if other bytes return.
+ * - U16550_LOOPBACK_STALLED after spin_limit unsuccessful polls in a row. If the first wait
+ *   failed, nothing was written, and what the polls cleared is saved. Later a test byte may still
+ *   be in the transmitter, and is then sent after the test.
+ * - U16550_LOOPBACK_NO_CAPACITY or U16550_LOOPBACK_NOT_CLEAR_TO_SEND if the device does not accept
+ *   the test byte. Its cause is always U16550_SEND_NO_CAPACITY.
+ * - U16550_LOOPBACK_UNEXPECTED_BYTE, U16550_LOOPBACK_UNEXPECTED_MSG if other bytes return.
  *
  * Except for the first wait, MCR and IER are restored before the error is returned.
  *
- * Proved: MCR and IER are read, and there is a wait for an empty transmitter. If it reaches
- * the limit, nothing is written, and the result is a stall; else loopback is entered, bytes
- * are exchanged up to the first error, and MCR and IER are restored.
+ * Proved: MCR and IER are read, and there is a wait for an empty transmitter. If it reaches the
+ * limit, nothing is written, and the result is a stall; else loopback is entered, bytes are
+ * exchanged up to the first error, and MCR and IER are restored.
  */
-static struct uart_loopback_error uart_test_loopback(struct u16550_core_driver *uart)
+static int
+uart_test_loopback(struct u16550_core_driver *uart, struct uart_loopback_failure *failure)
 {
     uint8_t mcr = uart_mcr(uart);
     uint8_t ier = uart_ier(uart);
     if (!uart_wait_for(uart, U16550_LSR_TRANSMITTER_EMPTY))
-        return uart_loopback_error_stalled();
+        return U16550_LOOPBACK_STALLED;
     uint8_t noted = uart->saved_lsr;
     uint8_t before = uart_enter_loopback(uart, uart->config.fifo_trigger_level);
-    struct uart_loopback_error outcome = uart_exchange(uart);
+    int status = uart_exchange(uart, failure);
     uart_leave_loopback(uart, mcr, ier, before, noted);
-    return outcome;
+    return status;
 }
 #endif
 
 /*
  * Waits until some bytes were received, and returns how many.
  *
- * Proved: a wait for bytes into n slots: some were received, or there were as many misses as
- * the limit.
+ * Proved: a wait for bytes into n slots: some were received, or there were as many misses as the
+ * limit.
  */
-static struct uart_maybe_u64
-uart_receive_some(struct u16550_core_driver *uart, uint8_t *buffer, size_t buffer_len)
+static bool
+uart_receive_some(struct u16550_core_driver *uart, uint8_t *buffer, size_t buffer_len,
+    size_t *count)
 {
-    uint64_t number = uart->spin_limit;
-    for (uint64_t turn = 0; turn < number; turn++) {
-        size_t count = uart_receive_bytes(uart, buffer, buffer_len);
-        if (0 < count)
-            return uart_some_u64(count);
+    uint64_t spin_limit = uart->spin_limit;
+    for (uint64_t turn = 0; turn < spin_limit; turn++) {
+        size_t found_count = uart_receive_bytes(uart, buffer, buffer_len);
+        if (found_count > 0) {
+            *count = found_count;
+            return true;
+        }
     }
-    return uart_no_u64();
+    return false;
 }
 
 /*
@@ -4179,50 +3073,61 @@ uart_receive_some(struct u16550_core_driver *uart, uint8_t *buffer, size_t buffe
  *
  * Slots beyond this number are unchanged. If the call fails, all slots are unchanged.
  */
-static inline struct uart_u64_or_stalled_error
-uart_read(struct u16550_core_driver *uart, uint8_t *buf, size_t buf_len)
+static int
+uart_read(struct u16550_core_driver *uart, uint8_t *buf, size_t buf_len, size_t *count,
+    size_t *stalled_at)
 {
-    if (buf_len == 0)
-        return uart_good_u64_or_stalled_error(0);
-    struct uart_maybe_u64 found = uart_receive_some(uart, buf, buf_len);
-    if (found.is_some)
-        return uart_good_u64_or_stalled_error(found.value);
-    return uart_bad_u64_or_stalled_error(0);
+    if (buf_len == 0) {
+        *count = 0;
+        return U16550_OK;
+    }
+    if (uart_receive_some(uart, buf, buf_len, count))
+        return U16550_OK;
+    *stalled_at = 0;
+    return U16550_STALLED;
 }
 
 /* Returns whether a read would find a byte without waiting. */
-static inline struct uart_bool_or_stalled_error uart_read_ready(struct u16550_core_driver *uart)
+static inline int uart_read_ready(struct u16550_core_driver *uart, bool *ready, size_t *stalled_at)
 {
-    return uart_good_bool_or_stalled_error(uart_ready_to_receive(uart));
+    (void)stalled_at;
+    *ready = uart_ready_to_receive(uart);
+    return U16550_OK;
 }
 
 /* Waits until everything that was written has been sent. */
-static inline struct uart_maybe_stalled_error uart_flush(struct u16550_core_driver *uart)
+static inline int uart_flush(struct u16550_core_driver *uart, size_t *stalled_at)
 {
     if (uart_wait_for(uart, U16550_LSR_TRANSMITTER_EMPTY))
-        return uart_no_stalled_error();
-    return uart_failed_stalled_error(0);
+        return U16550_OK;
+    *stalled_at = 0;
+    return U16550_STALLED;
 }
 
 /*
- * Writes at least one byte from the front, waits for room if necessary, and returns how many
- * were written: 0 only if there are no bytes.
+ * Writes at least one byte from the front, waits for room if necessary, and returns how many were
+ * written: 0 only if there are no bytes.
  */
-static inline struct uart_u64_or_stalled_error
-uart_write(struct u16550_core_driver *uart, const uint8_t *buf, size_t buf_len)
+static int
+uart_write(struct u16550_core_driver *uart, const uint8_t *buf, size_t buf_len, size_t *count,
+    size_t *stalled_at)
 {
-    if (buf_len == 0)
-        return uart_good_u64_or_stalled_error(0);
-    struct uart_maybe_u64 found = uart_send_some(uart, buf, buf_len);
-    if (found.is_some)
-        return uart_good_u64_or_stalled_error(found.value);
-    return uart_bad_u64_or_stalled_error(0);
+    if (buf_len == 0) {
+        *count = 0;
+        return U16550_OK;
+    }
+    if (uart_send_some(uart, buf, buf_len, count))
+        return U16550_OK;
+    *stalled_at = 0;
+    return U16550_STALLED;
 }
 
 /* Returns whether a write would find room without waiting. */
-static inline struct uart_bool_or_stalled_error uart_write_ready(struct u16550_core_driver *uart)
+static inline int uart_write_ready(struct u16550_core_driver *uart, bool *ready, size_t *stalled_at)
 {
-    return uart_good_bool_or_stalled_error(uart_ready_to_send(uart) == UART_BYTE_SEND_ERROR_NONE);
+    (void)stalled_at;
+    *ready = uart_ready_to_send(uart) == U16550_OK;
+    return U16550_OK;
 }
 
 /*
@@ -4230,39 +3135,45 @@ static inline struct uart_bool_or_stalled_error uart_write_ready(struct u16550_c
  *
  * Proved: these bytes, one by one: all of them, or a beginning.
  */
-static struct uart_maybe_stalled_error
-uart_send_singly(struct u16550_core_driver *uart, const uint8_t *bytes, size_t bytes_len)
+static int
+uart_send_singly(struct u16550_core_driver *uart, const uint8_t *bytes, size_t bytes_len,
+    size_t *stalled_at)
 {
     for (size_t done = 0; done < bytes_len; done++) {
         uint8_t byte = bytes[done];
-        if (!uart_wait_to_send(uart))
-            return uart_failed_stalled_error(done);
+        if (!uart_wait_to_send(uart)) {
+            *stalled_at = done;
+            return U16550_STALLED;
+        }
         uart_write_byte(uart, byte);
     }
-    return uart_no_stalled_error();
+    return U16550_OK;
 }
 
 /* Returns what is sent for a byte of a text. */
-static struct uart_expansion uart_expansion_of(uint8_t byte)
+static struct uart_expansion uart_tty_expand(uint8_t byte)
 {
     switch (byte) {
-    case 8:
-    case 127: {
-        struct uart_bytes3 n;
-        uart_copy_bytes(n.bytes, uart_expansion_of_bytes, 3);
-        return uart_make_expansion(n, 3);
-    }
-    case 10: {
+    case '\b':
+    case 0x7f: {
         struct uart_bytes3 bytes;
-        uart_copy_bytes(bytes.bytes, uart_expansion_of_bytes2, 3);
-        return uart_make_expansion(bytes, 2);
+        uart_copy_bytes(bytes.bytes, uart_erase_text, 3);
+        struct uart_expansion expansion = { bytes, 3 };
+        return expansion;
+    }
+    case '\n': {
+        struct uart_bytes3 bytes;
+        uart_copy_bytes(bytes.bytes, uart_newline_text, 3);
+        struct uart_expansion expansion = { bytes, 2 };
+        return expansion;
     }
     default: {
-        struct uart_bytes3 bytes2;
-        bytes2.bytes[0] = byte;
-        bytes2.bytes[1] = 0;
-        bytes2.bytes[2] = 0;
-        return uart_make_expansion(bytes2, 1);
+        struct uart_bytes3 bytes;
+        bytes.bytes[0] = byte;
+        bytes.bytes[1] = 0;
+        bytes.bytes[2] = 0;
+        struct uart_expansion expansion = { bytes, 1 };
+        return expansion;
     }
     }
 }
@@ -4271,57 +3182,52 @@ static struct uart_expansion uart_expansion_of(uint8_t byte)
  * Sends the expansion of a byte, and returns its length. Printable bytes have a branch of their
  * own, since most bytes of a text are printable, and that branch is short.
  *
- * Proved: the driver under the terminal made a list of the language.
  * Proved: these bytes, one by one: all of them, or a beginning.
  */
-static struct uart_u64_or_stalled_error uart_tty_send_expansion(struct uart_tty *tty, uint8_t byte)
+static int
+uart_tty_send_expansion(struct uart_tty *tty, uint8_t byte, size_t *count, size_t *stalled_at)
 {
-    if (byte >= 32 && byte < 127) {
-        struct uart_bytes1 bytes;
-        bytes.bytes[0] = byte;
-        struct uart_maybe_stalled_error expansion = uart_send_singly(&tty->inner, bytes.bytes, 1);
-        if (expansion.is_error)
-            return uart_bad_u64_or_stalled_error(expansion.error);
-        return uart_good_u64_or_stalled_error(1);
+    if (byte >= ' ' && byte < 0x7f) {
+        if (uart_send_singly(&tty->inner, &byte, 1, stalled_at) != U16550_OK)
+            return U16550_STALLED;
+        *count = 1;
+        return U16550_OK;
     }
-    struct uart_expansion b = uart_expansion_of(byte);
-    struct uart_maybe_stalled_error found = uart_send_singly(&tty->inner, b.first.bytes, b.second);
-    if (found.is_error)
-        return uart_bad_u64_or_stalled_error(found.error);
-    return uart_good_u64_or_stalled_error(b.second);
+    struct uart_expansion expansion = uart_tty_expand(byte);
+    if (uart_send_singly(&tty->inner, expansion.text.bytes, expansion.len, stalled_at) != U16550_OK)
+        return U16550_STALLED;
+    *count = expansion.len;
+    return U16550_OK;
 }
 
 /*
- * Sends the expansion of text that need not be UTF-8, as write_text does.
+ * Sends the expansion of text that need not be UTF-8, as u16550_write_text does.
  *
  * This is for a console that passes on what others write, as the messages of a log in an older
  * code.
  *
  * Errors
  *
- * Those of write_text.
+ * Those of u16550_write_text.
  *
- * Proved: the driver under the terminal made a list of the language.
- * Proved: the expansion of the text, byte by byte, each after its own wait; or a beginning
- * of it, as long as the error reports, at most 2 ^ 64 - 1, and then a wait that reaches the
- * limit.
+ * Proved: the expansion of the text, byte by byte, each after its own wait; or a beginning of it,
+ * as long as the error reports, at most SIZE_MAX, and then a wait that reaches the limit.
  */
-static struct uart_maybe_stalled_error
-uart_tty_write_raw_text(struct uart_tty *tty, const uint8_t *text, size_t text_len)
+static int
+uart_tty_write_raw_text(struct uart_tty *tty, const uint8_t *text, size_t text_len,
+    size_t *stalled_at)
 {
     size_t done = 0;
     for (size_t byte = 0; byte < text_len; byte++) {
-        struct uart_u64_or_stalled_error outcome = uart_tty_send_expansion(tty, text[byte]);
-        if (outcome.is_error) {
-            size_t number = done;
-            return uart_failed_stalled_error(number <= SIZE_MAX - outcome.error
-                ? number + outcome.error : SIZE_MAX);
+        size_t count;
+        size_t found_stalled_at;
+        if (uart_tty_send_expansion(tty, text[byte], &count, &found_stalled_at) != U16550_OK) {
+            *stalled_at = done <= SIZE_MAX - found_stalled_at ? done + found_stalled_at : SIZE_MAX;
+            return U16550_STALLED;
         }
-        size_t number2 = done;
-        done = number2 <= SIZE_MAX - (size_t)outcome.value ? number2 + (size_t)outcome.value
-            : SIZE_MAX;
+        done = done <= SIZE_MAX - count ? done + count : SIZE_MAX;
     }
-    return uart_no_stalled_error();
+    return U16550_OK;
 }
 
 #ifndef U16550_OMIT_DESIGN_WARE
@@ -4337,35 +3243,31 @@ uart_design_ware_load(struct u16550_core_design_ware *design_ware, size_t offset
 }
 
 /*
- * Returns whether the chip has DLAB otherwise than the driver takes it to have, so that offsets
- * 0 and 1 are something else than the driver means.
+ * Returns whether the chip has DLAB otherwise than the driver takes it to have, so that offsets 0
+ * and 1 are something else than the driver means.
  *
- * Proved: whether offsets 0 and 1 are something else than the driver means: after an ignored
- * write of LCR, one read of LCR shows DLAB otherwise than the driver wrote it. Else no
- * access is made.
+ * Proved: whether offsets 0 and 1 are something else than the driver means: after an ignored write
+ * of LCR, one read of LCR shows DLAB otherwise than the driver wrote it. Else no access is made.
  */
 static inline bool uart_design_ware_is_mistaken(struct u16550_core_design_ware *design_ware)
 {
     if (!(design_ware->fault.is_some &&
-        design_ware->fault.value == U16550_CORE_DESIGN_WARE_FAULT_LINE_CONTROL_IGNORED)) {
+        design_ware->fault.value == U16550_DESIGN_WARE_LINE_CONTROL)) {
         return false;
     }
-    bool is_so = (uart_design_ware_load(design_ware, UART_LCR) & U16550_LCR_DLAB) != 0;
-    return is_so != ((design_ware->line & U16550_LCR_DLAB) != 0);
+    bool dlab = (uart_design_ware_load(design_ware, UART_LCR) & U16550_LCR_DLAB) != 0;
+    return dlab != ((design_ware->line & U16550_LCR_DLAB) != 0);
 }
 
 /*
  * Returns whether a register is something else than the driver means.
  *
- * Proved: whether a register is something else than the driver means: a look, if DLAB
- * changes it.
+ * Proved: whether a register is something else than the driver means: a look, if DLAB changes it.
  */
 static inline bool
 uart_design_ware_is_out_of_reach(struct u16550_core_design_ware *design_ware, size_t offset)
 {
-    if (1 < offset)
-        return false;
-    return uart_design_ware_is_mistaken(design_ware);
+    return offset <= 1 && uart_design_ware_is_mistaken(design_ware);
 }
 
 /* Returns whether this offset is of the divisor latch, as the driver takes it. */
@@ -4376,25 +3278,27 @@ uart_design_ware_is_latch(const struct u16550_core_design_ware *design_ware, siz
 }
 
 /* Takes the first one. */
-static inline struct uart_maybe_received
-uart_kept_characters_pop(struct u16550_core_kept_characters *kept_characters)
+static bool
+uart_kept_characters_pop(struct u16550_core_kept_characters *kept_characters,
+    struct u16550_received *received)
 {
     if (kept_characters->count == 0)
-        return uart_no_received();
-    struct u16550_received received = kept_characters->cells.bytes[0];
-    uart_first_to_last(kept_characters->cells.bytes, 64);
+        return false;
+    struct u16550_received found_received = kept_characters->cells.bytes[0];
+    uart_first_to_last(kept_characters->cells.bytes, UART_KEPT);
     kept_characters->count--;
-    return uart_some_received(received);
+    *received = found_received;
+    return true;
 }
 
 /* Reads DATA. */
 static inline uint8_t uart_design_ware_read_data(struct u16550_core_design_ware *design_ware)
 {
-    struct uart_maybe_received found = uart_kept_characters_pop(&design_ware->kept);
-    if (!found.is_some)
+    struct u16550_received received;
+    if (!uart_kept_characters_pop(&design_ware->kept, &received))
         return uart_design_ware_load(design_ware, UART_DATA);
-    design_ware->cleared |= found.value.errors;
-    return found.value.byte;
+    design_ware->cleared |= received.errors;
+    return received.byte;
 }
 
 /*
@@ -4405,17 +3309,14 @@ static inline uint8_t uart_design_ware_read_data(struct u16550_core_design_ware 
 static inline uint8_t uart_design_ware_look(struct u16550_core_design_ware *design_ware)
 {
     uint8_t lsr = uart_design_ware_load(design_ware, UART_LSR);
-    design_ware->cleared |= lsr & (U16550_LSR_OVERRUN_ERROR | U16550_LSR_PARITY_ERROR |
-        U16550_LSR_FRAMING_ERROR | U16550_LSR_BREAK_INTERRUPT);
+    design_ware->cleared |= lsr & U16550_LSR_LINE_ERRORS;
     return lsr;
 }
 
 /* Returns what a look at LSR shows of the line, without the errors, which are saved. */
-static uint8_t uart_line_state(uint8_t lsr, bool is_mistaken)
+static inline uint8_t uart_line_state(uint8_t lsr, bool is_mistaken)
 {
-    uint8_t state =
-        lsr & (uint8_t)~(U16550_LSR_OVERRUN_ERROR | U16550_LSR_PARITY_ERROR |
-        U16550_LSR_FRAMING_ERROR | U16550_LSR_BREAK_INTERRUPT);
+    uint8_t state = lsr & (uint8_t)~U16550_LSR_LINE_ERRORS;
     if (!is_mistaken)
         return state;
     return state & (uint8_t)~(U16550_LSR_DATA_READY | U16550_LSR_THR_EMPTY |
@@ -4423,34 +3324,36 @@ static uint8_t uart_line_state(uint8_t lsr, bool is_mistaken)
 }
 
 /* Takes the errors of the first one, which stays without them. */
-static inline struct uart_maybe_lsr
-uart_kept_characters_take_errors(struct u16550_core_kept_characters *kept_characters)
+static inline bool
+uart_kept_characters_take_errors(struct u16550_core_kept_characters *kept_characters,
+    uint8_t *errors)
 {
     if (kept_characters->count == 0)
-        return uart_no_lsr();
-    uint8_t errors = kept_characters->cells.bytes[0].errors;
+        return false;
+    uint8_t found_errors = kept_characters->cells.bytes[0].errors;
     kept_characters->cells.bytes[0].errors = 0;
-    return uart_some_lsr(errors);
+    *errors = found_errors;
+    return true;
 }
 
 /*
- * Returns LSR for the character that the driver reads next, from what a look at LSR showed of
- * the line.
+ * Returns LSR for the character that the driver reads next, from what a look at LSR showed of the
+ * line.
  *
- * Proved: what LSR shows for the character that the driver reads next: data, an overrun, and
- * its own errors. If none is kept, what the chip shows, with all errors that are saved.
+ * Proved: what LSR shows for the character that the driver reads next: data, an overrun, and its
+ * own errors. If none is kept, what the chip shows, with all errors that are saved.
  */
 static uint8_t uart_design_ware_show(struct u16550_core_design_ware *design_ware, uint8_t state)
 {
-    struct uart_maybe_lsr found = uart_kept_characters_take_errors(&design_ware->kept);
-    if (!found.is_some) {
+    uint8_t errors;
+    if (!uart_kept_characters_take_errors(&design_ware->kept, &errors)) {
         uint8_t cleared = design_ware->cleared;
         design_ware->cleared = 0;
         return state | cleared;
     }
     uint8_t overrun = design_ware->cleared & U16550_LSR_OVERRUN_ERROR;
     design_ware->cleared &= (uint8_t)~overrun;
-    return state | U16550_LSR_DATA_READY | overrun | found.value;
+    return state | U16550_LSR_DATA_READY | overrun | errors;
 }
 
 /*
@@ -4490,8 +3393,8 @@ static inline bool uart_design_ware_shows_no_data(struct u16550_core_design_ware
 /*
  * Returns whether there is nothing to read.
  *
- * Proved: whether nothing is to be read: none is kept, DATA can be reached, and LSR shows
- * neither data nor a break.
+ * Proved: whether nothing is to be read: none is kept, DATA can be reached, and LSR shows neither
+ * data nor a break.
  */
 static inline bool uart_design_ware_is_without_data(struct u16550_core_design_ware *design_ware)
 {
@@ -4516,49 +3419,36 @@ static inline bool uart_design_ware_end_timeout(struct u16550_core_design_ware *
 }
 
 /*
- * Ends the interrupt that ISR shows if the driver cannot serve it, and returns whether it is
- * such a one.
+ * Ends the interrupt that ISR shows if the driver cannot serve it, and returns whether it is such
+ * a one.
  *
- * Proved: an interrupt that the driver cannot serve is ended, or it is another one. A read
- * of USR ends a busy detect.
+ * Proved: an interrupt that the driver cannot serve is ended, or it is another one. A read of USR
+ * ends a busy detect.
  */
 static inline bool
 uart_design_ware_end_interrupt(struct u16550_core_design_ware *design_ware, uint8_t isr)
 {
-    uint8_t cause = isr & 15;
-    if (cause == 7) {
+    uint8_t cause = isr & UART_CAUSE;
+    if (cause == UART_BUSY_DETECT) {
         uart_design_ware_read_usr(design_ware);
         return true;
     }
-    if (cause == 12)
+    if (cause == UART_TIMEOUT)
         return uart_design_ware_end_timeout(design_ware);
     return false;
 }
 
 /*
- * Returns ISR as the driver gets it. Nothing is pending in the chip for data that are kept
- * here.
+ * Returns ISR as the driver gets it. Nothing is pending in the chip for data that are kept here.
  */
-static uint8_t
-uart_design_ware_shown_isr(const struct u16550_core_design_ware *design_ware, uint8_t isr)
+static inline uint8_t
+uart_design_ware_isr_with_kept(const struct u16550_core_design_ware *design_ware, uint8_t isr)
 {
-    bool is_so = design_ware->kept.count != 0 &&
+    bool is_kept = design_ware->kept.count != 0 &&
         (design_ware->interrupts & U16550_IER_DATA_READY) != 0;
-    uint8_t number;
-    bool is_so2;
-    if ((isr & 15) == 1) {
-        if (is_so) {
-            number = (isr & (uint8_t)~15) | 4;
-            is_so2 = false;
-        } else {
-            is_so2 = true;
-        }
-    } else {
-        is_so2 = true;
-    }
-    if (is_so2)
-        number = isr;
-    return number;
+    if ((isr & UART_CAUSE) == UART_SERVING_NONE && is_kept)
+        return (isr & (uint8_t)~UART_CAUSE) | UART_SERVING_DATA;
+    return isr;
 }
 
 /*
@@ -4573,15 +3463,16 @@ uart_design_ware_store(struct u16550_core_design_ware *design_ware, size_t offse
 }
 
 /*
- * Turns the chip's interrupts off, until LCR was written and taken. While DLAB is set, IER
- * cannot be reached.
+ * Turns the chip's interrupts off, until LCR was written and taken. While DLAB is set, IER cannot
+ * be reached.
  *
  * Proved: a fault begins: all interrupts are disabled, if LCR shows that IER can be reached.
  */
 static inline void
 uart_design_ware_begin_fault(struct u16550_core_design_ware *design_ware, uint8_t fault)
 {
-    design_ware->fault = uart_some_design_ware_fault(fault);
+    design_ware->fault.is_some = true;
+    design_ware->fault.value = fault;
     if ((uart_design_ware_load(design_ware, UART_LCR) & U16550_LCR_DLAB) == 0)
         uart_design_ware_store(design_ware, UART_IER, 0);
 }
@@ -4593,14 +3484,14 @@ uart_design_ware_begin_fault(struct u16550_core_design_ware *design_ware, uint8_
  */
 static uint8_t uart_design_ware_read_isr(struct u16550_core_design_ware *design_ware)
 {
-    uint8_t isr = 1;
-    for (uint64_t round = 0; round < 4; round++) {
+    uint8_t isr = UART_SERVING_NONE;
+    for (uint64_t round = 0; round < UART_ROUNDS; round++) {
         isr = uart_design_ware_load(design_ware, UART_ISR);
         if (!uart_design_ware_end_interrupt(design_ware, isr))
-            return uart_design_ware_shown_isr(design_ware, isr);
+            return uart_design_ware_isr_with_kept(design_ware, isr);
     }
-    uart_design_ware_begin_fault(design_ware, U16550_CORE_DESIGN_WARE_FAULT_INTERRUPT_WITHOUT_END);
-    return (isr & (uint8_t)~15) | 1;
+    uart_design_ware_begin_fault(design_ware, U16550_DESIGN_WARE_INTERRUPT);
+    return (isr & (uint8_t)~UART_CAUSE) | UART_SERVING_NONE;
 }
 
 /*
@@ -4611,11 +3502,11 @@ static uint8_t uart_design_ware_read_isr(struct u16550_core_design_ware *design_
 static uint8_t
 uart_design_ware_read_plain(struct u16550_core_design_ware *design_ware, size_t offset)
 {
-    if (offset == 0)
+    if (offset == UART_DATA)
         return uart_design_ware_read_data(design_ware);
-    if (offset == 5)
+    if (offset == UART_LSR)
         return uart_design_ware_read_lsr(design_ware);
-    if (offset == 2)
+    if (offset == UART_ISR)
         return uart_design_ware_read_isr(design_ware);
     return uart_design_ware_load(design_ware, offset);
 }
@@ -4636,23 +3527,22 @@ uart_design_ware_read_meant(struct u16550_core_design_ware *design_ware, size_t 
 /*
  * Reads the register at an offset of 0 to 7, and returns its value.
  *
- * Called once for each read that the driver makes. A read may change the device: one of LSR
- * clears its error bits.
+ * Called once for each read that the driver makes. A read may change the device: one of LSR clears
+ * its error bits.
  */
 static inline uint8_t
 uart_design_ware_read(struct u16550_core_design_ware *design_ware, uint8_t register_offset)
 {
-    size_t offset = (size_t)register_offset;
-    if (uart_design_ware_is_out_of_reach(design_ware, offset))
+    if (uart_design_ware_is_out_of_reach(design_ware, register_offset))
         return 0;
-    return uart_design_ware_read_meant(design_ware, offset);
+    return uart_design_ware_read_meant(design_ware, register_offset);
 }
 
 /* Returns whether this offset is that of IER, and not of the latch. */
 static inline bool
 uart_design_ware_is_interrupts(const struct u16550_core_design_ware *design_ware, size_t offset)
 {
-    return offset == 1 && !uart_design_ware_is_latch(design_ware, 1);
+    return offset == UART_IER && !uart_design_ware_is_latch(design_ware, 1);
 }
 
 /*
@@ -4669,8 +3559,8 @@ uart_design_ware_write_interrupts(struct u16550_core_design_ware *design_ware, u
 }
 
 /*
- * Returns whether a write of FCR empties the chip's receiver: a reset, and a change of the
- * FIFOs' switch.
+ * Returns whether a write of FCR empties the chip's receiver: a reset, and a change of the FIFOs'
+ * switch.
  */
 static inline bool
 uart_design_ware_empties(const struct u16550_core_design_ware *design_ware, uint8_t control)
@@ -4713,7 +3603,7 @@ uart_design_ware_write_fifo_control(struct u16550_core_design_ware *design_ware,
  */
 static inline bool uart_design_ware_is_busy(struct u16550_core_design_ware *design_ware)
 {
-    return (uart_design_ware_read_usr(design_ware) & 1) != 0;
+    return (uart_design_ware_read_usr(design_ware) & UART_BUSY) != 0;
 }
 
 /*
@@ -4749,14 +3639,14 @@ static inline bool uart_design_ware_takes(struct u16550_core_design_ware *design
 static inline void uart_design_ware_end_fault(struct u16550_core_design_ware *design_ware)
 {
     if (design_ware->fault.is_some && (design_ware->line & U16550_LCR_DLAB) == 0) {
-        design_ware->fault = uart_no_design_ware_fault();
+        design_ware->fault.is_some = false;
         uart_design_ware_store(design_ware, UART_IER, design_ware->interrupts);
     }
 }
 
 /*
- * Discards received data while offset 0 is the latch. They cannot be read, and must not be lost
- * in silence.
+ * Discards received data while offset 0 is the latch. They cannot be read, and must not be lost in
+ * silence.
  *
  * Proved: while offset 0 is the divisor latch, data that LSR shows are discarded.
  */
@@ -4790,8 +3680,7 @@ static void uart_design_ware_keep_waiting(struct u16550_core_design_ware *design
             return;
         uint8_t errors = design_ware->cleared;
         design_ware->cleared = 0;
-        struct u16550_received received =
-            uart_make_received(uart_design_ware_load(design_ware, UART_DATA), errors);
+        struct u16550_received received = { uart_design_ware_load(design_ware, UART_DATA), errors };
         uart_kept_characters_keep(&design_ware->kept, received);
     }
 }
@@ -4817,15 +3706,15 @@ static inline void uart_design_ware_make_room(struct u16550_core_design_ware *de
 static void uart_design_ware_write_line(struct u16550_core_design_ware *design_ware, uint8_t line)
 {
     design_ware->line = line;
-    uint64_t number = design_ware->patience;
-    for (uint64_t round = 0; round < number; round++) {
+    uint64_t patience = design_ware->patience;
+    for (uint64_t round = 0; round < patience; round++) {
         if (uart_design_ware_takes(design_ware, line)) {
             uart_design_ware_end_fault(design_ware);
             return;
         }
         uart_design_ware_make_room(design_ware);
     }
-    uart_design_ware_begin_fault(design_ware, U16550_CORE_DESIGN_WARE_FAULT_LINE_CONTROL_IGNORED);
+    uart_design_ware_begin_fault(design_ware, U16550_DESIGN_WARE_LINE_CONTROL);
     uart_design_ware_read_usr(design_ware);
 }
 
@@ -4838,11 +3727,11 @@ static void
 uart_design_ware_write_plain(struct u16550_core_design_ware *design_ware, size_t offset,
     uint8_t value)
 {
-    if (offset == 2) {
+    if (offset == UART_FCR) {
         uart_design_ware_write_fifo_control(design_ware, value);
         return;
     }
-    if (offset == 3) {
+    if (offset == UART_LCR) {
         uart_design_ware_write_line(design_ware, value);
         return;
     }
@@ -4872,35 +3761,35 @@ static inline void
 uart_design_ware_write(struct u16550_core_design_ware *design_ware, uint8_t register_offset,
     uint8_t value)
 {
-    size_t offset = (size_t)register_offset;
-    if (uart_design_ware_is_interrupts(design_ware, offset)) {
+    if (uart_design_ware_is_interrupts(design_ware, register_offset)) {
         uart_design_ware_write_interrupts(design_ware, value);
         return;
     }
-    uart_design_ware_write_meant(design_ware, offset, value);
+    uart_design_ware_write_meant(design_ware, register_offset, value);
 }
 
 /* Returns what went wrong, if anything did since the last write of LCR that the chip took. */
-static inline struct u16550_core_maybe_design_ware_fault
-uart_design_ware_fault(const struct u16550_core_design_ware *design_ware)
+static inline bool
+uart_design_ware_fault(const struct u16550_core_design_ware *design_ware, uint8_t *fault)
 {
-    return design_ware->fault;
+    *fault = design_ware->fault.value;
+    return design_ware->fault.is_some;
 }
 
 /* Returns none. */
 static inline struct u16550_core_kept_characters uart_kept_characters_new(void)
 {
-    struct u16550_received received = uart_make_received(0, 0);
+    struct u16550_received received = { 0, 0 };
     struct u16550_core_kept_characters kept_characters;
-    for (size_t place = 0; place < 64; place++)
+    for (size_t place = 0; place < UART_KEPT; place++)
         kept_characters.cells.bytes[place] = received;
     kept_characters.count = 0;
     return kept_characters;
 }
 
 /*
- * Returns a backend over these registers. patience is how many times in a row it looks
- * whether the chip is busy before a write of LCR has failed. Makes no access.
+ * Returns a backend over these registers. patience is how many times in a row it looks whether the
+ * chip is busy before a write of LCR has failed. Makes no access.
  *
  * A full FIFO and a character take about 17.7 ms at 9,600 baud.
  */
@@ -4915,7 +3804,7 @@ uart_design_ware_new(struct u16550_device registers, uint64_t patience)
     design_ware.line = 0;
     design_ware.interrupts = 0;
     design_ware.fifo_control = 0;
-    design_ware.fault = uart_no_design_ware_fault();
+    design_ware.fault.is_some = false;
     return design_ware;
 }
 #endif
@@ -4934,19 +3823,19 @@ uart_design_ware_new(struct u16550_device registers, uint64_t patience)
  * at each port in turn. So if the line is high afterwards, it has risen since the call began, and
  * a controller that detects edges calls the handler again.
  *
- * A chip that is stuck has its interrupts disabled, as after a try_handle, and the others are
- * served.
+ * A chip that is stuck has its interrupts disabled, as after a u16550_ring_try_handle, and the
+ * others are served.
  */
 static bool uart_handle_line(struct uart_line_ports *ports, size_t limit, uint32_t rounds)
 {
     size_t number = uart_line_ports_number(ports);
     bool has_served = false;
     for (size_t port = 0; port < number; port++) {
-        bool is_so = uart_line_ports_lower(ports, port, limit, rounds);
-        has_served = has_served || is_so;
+        bool was_served = uart_line_ports_lower(ports, port, limit, rounds);
+        has_served = has_served || was_served;
     }
-    for (size_t port2 = 0; port2 < number; port2++)
-        uart_line_ports_raise(ports, port2);
+    for (size_t port = 0; port < number; port++)
+        uart_line_ports_raise(ports, port);
     return has_served;
 }
 
@@ -4957,17 +3846,21 @@ static bool uart_handle_line(struct uart_line_ports *ports, size_t limit, uint32
  */
 static inline bool uart_is_capacity(size_t capacity)
 {
-    return 1 <= capacity && capacity <= 4096;
+    return capacity >= 1 && capacity <= UART_MAX_CAPACITY;
 }
 
 /* Returns an empty queue with room for this number of bytes. */
-static inline struct uart_maybe_byte_queue
-uart_byte_queue_with_capacity(struct uart_memory *alloc, size_t capacity)
+static bool
+uart_byte_queue_with_capacity(struct uart_memory *alloc, size_t capacity,
+    struct u16550_core_byte_queue *byte_queue)
 {
-    struct uart_maybe_vec_u8 found = uart_cells_in_memory(alloc, 0, capacity);
-    if (!found.is_some)
-        return uart_no_byte_queue();
-    return uart_some_byte_queue(uart_make_byte_queue(found.value, 0, 0));
+    struct u16550_core_vec_u8 cells;
+    if (!uart_cells_in_memory(alloc, 0, capacity, &cells))
+        return false;
+    byte_queue->cells = cells;
+    byte_queue->front = 0;
+    byte_queue->len = 0;
+    return true;
 }
 
 /*
@@ -4978,39 +3871,33 @@ uart_byte_queue_with_capacity(struct uart_memory *alloc, size_t capacity)
  *
  * Errors
  *
- * - BadCapacity if the capacity is 0 or more than
- *   MAX_CAPACITY.
- * - OutOfMemory if memory could not be allocated.
+ * - U16550_RING_BAD_CAPACITY if the capacity is 0 or more than U16550_MAX_CAPACITY.
+ * - U16550_RING_OUT_OF_MEMORY if memory could not be allocated.
  *
  * The backend is returned with the error, unchanged.
  *
  * Proved: notes of nothing over this backend, with room for the errors of so many bytes.
  * Proved: how many bytes a ring can be made for: 1 to 4096.
  */
-static struct uart_error_notes_or_pair_of_ring_error
-uart_error_notes_new(struct uart_memory *alloc, struct u16550_device backend, size_t capacity)
+static int
+uart_error_notes_new(struct uart_memory *alloc, struct u16550_device backend, size_t capacity,
+    struct u16550_core_error_notes *error_notes, struct u16550_device *device)
 {
-    struct uart_error_notes_or_pair_of_ring_error made;
     if (!uart_is_capacity(capacity)) {
-        made.is_error = true;
-        made.error.first = backend;
-        made.error.second = UART_RING_ERROR_BAD_CAPACITY;
-        return made;
+        *device = backend;
+        return U16550_RING_BAD_CAPACITY;
     }
-    struct uart_maybe_byte_queue found = uart_byte_queue_with_capacity(alloc, capacity);
-    if (!found.is_some) {
-        made.is_error = true;
-        made.error.first = backend;
-        made.error.second = UART_RING_ERROR_OUT_OF_MEMORY;
-        return made;
+    struct u16550_core_byte_queue noted;
+    if (!uart_byte_queue_with_capacity(alloc, capacity, &noted)) {
+        *device = backend;
+        return U16550_RING_OUT_OF_MEMORY;
     }
-    made.value.backend = backend;
-    made.value.noted = found.value;
-    made.value.shown = 0;
-    made.value.is_latch = false;
-    made.value.is_overrun_old = true;
-    made.is_error = false;
-    return made;
+    error_notes->backend = backend;
+    error_notes->noted = noted;
+    error_notes->shown = 0;
+    error_notes->is_latch = false;
+    error_notes->is_overrun_old = true;
+    return U16550_OK;
 }
 
 /* Returns the largest number of bytes. */
@@ -5022,18 +3909,18 @@ static inline size_t uart_byte_queue_capacity(const struct u16550_core_byte_queu
 /* Returns how many bytes make way for one more: the first one, if there is no room. */
 static inline size_t uart_byte_queue_in_the_way(const struct u16550_core_byte_queue *byte_queue)
 {
-    size_t number = byte_queue->len;
-    if (number < uart_byte_queue_capacity(byte_queue))
+    size_t len = byte_queue->len;
+    if (len < uart_byte_queue_capacity(byte_queue))
         return 0;
-    size_t number2 = byte_queue->len;
-    return 1 < number2 ? 1 : number2;
+    size_t used = byte_queue->len;
+    return used > 1 ? 1 : used;
 }
 
 /*
  * Returns the cell that is count behind cell, of so many cells.
  *
- * Proved: this is the cell that is count behind cell, of so many cells: behind the last one
- * is the first.
+ * Proved: this is the cell that is count behind cell, of so many cells: behind the last one is the
+ * first.
  */
 static inline size_t uart_cell_behind(size_t cell, size_t count, size_t cells)
 {
@@ -5045,8 +3932,8 @@ static inline size_t uart_cell_behind(size_t cell, size_t count, size_t cells)
 static inline void
 uart_byte_queue_drop_front(struct u16550_core_byte_queue *byte_queue, size_t count)
 {
-    size_t number = byte_queue->front;
-    byte_queue->front = uart_cell_behind(number, count, uart_byte_queue_capacity(byte_queue));
+    size_t front = byte_queue->front;
+    byte_queue->front = uart_cell_behind(front, count, uart_byte_queue_capacity(byte_queue));
     byte_queue->len -= count;
 }
 
@@ -5054,31 +3941,30 @@ uart_byte_queue_drop_front(struct u16550_core_byte_queue *byte_queue, size_t cou
 static inline size_t
 uart_copy(const uint8_t *bytes, size_t bytes_len, uint8_t *slots, size_t slots_len, size_t place)
 {
-    size_t number = slots_len - place;
-    size_t number2 = number < bytes_len ? number : bytes_len;
-    if (0 < number2)
-        uart_copy_bytes(&slots[place], bytes, place + number2 - place);
-    return number2;
+    size_t room = slots_len - place;
+    size_t count = room < bytes_len ? room : bytes_len;
+    if (count > 0)
+        uart_copy_bytes(&slots[place], bytes, place + count - place);
+    return count;
 }
 
 /*
- * Appends bytes from the front of the slice, as many as there is room for, and returns how
- * many.
+ * Appends bytes from the front of the array, as many as there is room for, and returns how many.
  */
 static size_t
-uart_byte_queue_fill_from_slice(struct u16550_core_byte_queue *byte_queue, const uint8_t *bytes,
+uart_byte_queue_append(struct u16550_core_byte_queue *byte_queue, const uint8_t *bytes,
     size_t bytes_len)
 {
-    size_t byte_queue_capacity = uart_byte_queue_capacity(byte_queue);
-    size_t number = byte_queue_capacity - byte_queue->len;
-    size_t number2 = number < bytes_len ? number : bytes_len;
-    size_t number3 = byte_queue->front;
-    size_t number4 = byte_queue->len;
-    size_t behind = uart_cell_behind(number3, number4, uart_byte_queue_capacity(byte_queue));
+    size_t capacity = uart_byte_queue_capacity(byte_queue);
+    size_t room = capacity - byte_queue->len;
+    size_t some = room < bytes_len ? room : bytes_len;
+    size_t front = byte_queue->front;
+    size_t len = byte_queue->len;
+    size_t behind = uart_cell_behind(front, len, uart_byte_queue_capacity(byte_queue));
     uint8_t *cells = byte_queue->cells.data;
     size_t cells_len = byte_queue->cells.len;
-    size_t before = uart_copy(bytes, number2, cells, cells_len, behind);
-    size_t count = before + uart_copy(&bytes[before], number2 - before, cells, cells_len, 0);
+    size_t before = uart_copy(bytes, some, cells, cells_len, behind);
+    size_t count = before + uart_copy(&bytes[before], some - before, cells, cells_len, 0);
     byte_queue->len += count;
     return count;
 }
@@ -5088,9 +3974,7 @@ static inline void
 uart_byte_queue_push_last(struct u16550_core_byte_queue *byte_queue, uint8_t byte)
 {
     uart_byte_queue_drop_front(byte_queue, uart_byte_queue_in_the_way(byte_queue));
-    struct uart_bytes1 bytes;
-    bytes.bytes[0] = byte;
-    uart_byte_queue_fill_from_slice(byte_queue, bytes.bytes, 1);
+    uart_byte_queue_append(byte_queue, &byte, 1);
 }
 
 /* Notes what a read showed. */
@@ -5098,13 +3982,12 @@ static void
 uart_error_notes_note_read(struct u16550_core_error_notes *error_notes, size_t offset,
     uint8_t answer)
 {
-    if (offset == 5) {
-        error_notes->shown |= answer & (error_notes->is_overrun_old
-            ? U16550_LSR_PARITY_ERROR | U16550_LSR_FRAMING_ERROR | U16550_LSR_BREAK_INTERRUPT
-            : U16550_LSR_OVERRUN_ERROR | U16550_LSR_PARITY_ERROR | U16550_LSR_FRAMING_ERROR |
-            U16550_LSR_BREAK_INTERRUPT);
+    if (offset == UART_LSR) {
+        uint8_t errors = error_notes->is_overrun_old ? (uint8_t)U16550_LSR_CHARACTER_ERRORS
+            : (uint8_t)U16550_LSR_LINE_ERRORS;
+        error_notes->shown |= answer & errors;
         error_notes->is_overrun_old = false;
-    } else if (offset == 0 && !error_notes->is_latch) {
+    } else if (offset == UART_DATA && !error_notes->is_latch) {
         uart_byte_queue_push_last(&error_notes->noted, error_notes->shown);
         error_notes->shown = 0;
     }
@@ -5113,14 +3996,14 @@ uart_error_notes_note_read(struct u16550_core_error_notes *error_notes, size_t o
 /*
  * Reads the register at an offset of 0 to 7, and returns its value.
  *
- * Called once for each read that the driver makes. A read may change the device: one of LSR
- * clears its error bits.
+ * Called once for each read that the driver makes. A read may change the device: one of LSR clears
+ * its error bits.
  */
 static inline uint8_t
 uart_error_notes_read(struct u16550_core_error_notes *error_notes, uint8_t register_offset)
 {
     uint8_t answer = uart_device_read(&error_notes->backend, register_offset);
-    uart_error_notes_note_read(error_notes, (size_t)register_offset, answer);
+    uart_error_notes_note_read(error_notes, register_offset, answer);
     return answer;
 }
 
@@ -5129,9 +4012,9 @@ static inline void
 uart_error_notes_note_write(struct u16550_core_error_notes *error_notes, size_t offset,
     uint8_t value)
 {
-    if (offset == 3) {
+    if (offset == UART_LCR) {
         error_notes->is_latch = (value & U16550_LCR_DLAB) != 0;
-    } else if (offset == 2 && (value & U16550_FCR_RX_FIFO_RESET) != 0) {
+    } else if (offset == UART_FCR && (value & U16550_FCR_RX_FIFO_RESET) != 0) {
         error_notes->shown = 0;
         error_notes->is_overrun_old = true;
     }
@@ -5147,20 +4030,23 @@ uart_error_notes_write(struct u16550_core_error_notes *error_notes, uint8_t regi
     uint8_t value)
 {
     uart_device_write(&error_notes->backend, register_offset, value);
-    uart_error_notes_note_write(error_notes, (size_t)register_offset, value);
+    uart_error_notes_note_write(error_notes, register_offset, value);
 }
 
-/* Returns whether the other end may send, or None if that is to stay as it is. */
-static struct uart_maybe_bool
-uart_ring_may_send(const struct u16550_core_ring *ring, struct uart_receive_marks marks)
+/* Returns whether the other end may send, or none if that is to stay as it is. */
+static bool
+uart_ring_may_send(const struct u16550_core_ring *ring, struct uart_receive_marks marks, bool *may)
 {
     size_t byte_queue_capacity = uart_byte_queue_capacity(&ring->receive);
     size_t room = byte_queue_capacity - ring->receive.len;
-    if (room < marks.hold)
-        return uart_some_bool();
-    if (marks.release <= room)
-        return uart_some_bool_2();
-    return uart_no_bool();
+    if (room < marks.hold) {
+        *may = false;
+        return true;
+    }
+    if (marks.release > room)
+        return false;
+    *may = true;
+    return true;
 }
 
 /* Returns MCR with RTS asserted or clear. */
@@ -5186,65 +4072,64 @@ static inline void uart_ring_make_rts(struct u16550_core_ring *ring, bool on)
 }
 
 /*
- * Holds the other end back, or lets it go on, by RTS: clears RTS if the receive ring has room
- * for fewer than marks.hold bytes, and asserts it if there is room for at least
- * marks.release. Between the two RTS stays as it is.
+ * Holds the other end back, or lets it go on, by RTS: clears RTS if the receive ring has room for
+ * fewer than marks.hold bytes, and asserts it if there is room for at least marks.release. Between
+ * the two RTS stays as it is.
  *
- * The other end has to check CTS before it sends, as check_cts_before_sending says. It may
- * still send what is in its transmitter. So choose hold with room for that, and release
- * not above the capacity of the receive ring, or RTS would never be asserted again.
+ * The other end has to check CTS before it sends, as check_cts_before_sending says. It may still
+ * send what is in its transmitter. So choose hold with room for that, and release not above the
+ * capacity of the receive ring, or RTS would never be asserted again.
  *
- * Call it at the end of the interrupt handler, and after each take and clear_receive. A
- * handler alone is not enough: while the other end is held back no byte arrives, so nothing
- * calls the handler.
+ * Call it at the end of the interrupt handler, and after each u16550_ring_take and
+ * u16550_ring_clear_receive. A handler alone is not enough: while the other end is held back no
+ * byte arrives, so nothing calls the handler.
  *
- * Does not wait. Between the marks it makes no access. Otherwise it reads MCR, and if RTS is
- * not as it is to be, writes MCR: the other outputs as they were, and loopback off.
+ * Does not wait. Between the marks it makes no access. Otherwise it reads MCR, and if RTS is not
+ * as it is to be, writes MCR: the other outputs as they were, and loopback off.
  *
- * Proved: RTS is off if the receive ring has room for fewer bytes than hold, on if it has
- * room for release or more, and else stays. For this MCR is read, and written only if it
- * shows RTS otherwise.
+ * Proved: RTS is off if the receive ring has room for fewer bytes than hold, on if it has room for
+ * release or more, and else stays. For this MCR is read, and written only if it shows RTS
+ * otherwise.
  */
 static inline void
 uart_ring_adjust_rts(struct u16550_core_ring *ring, struct uart_receive_marks marks)
 {
-    struct uart_maybe_bool found = uart_ring_may_send(ring, marks);
-    if (found.is_some)
-        uart_ring_make_rts(ring, found.value);
+    bool may;
+    if (uart_ring_may_send(ring, marks, &may))
+        uart_ring_make_rts(ring, may);
 }
 
-/* Returns this number of bytes from the front, in order, as two slices. */
-static inline struct uart_pair_of_slice
-uart_byte_queue_front_slices(const struct u16550_core_byte_queue *byte_queue, size_t count)
+/* Returns this number of bytes from the front, in order, as two arrays. */
+static inline struct uart_slices
+uart_byte_queue_front_parts(const struct u16550_core_byte_queue *byte_queue, size_t count)
 {
     const uint8_t *cells = byte_queue->cells.data;
-    size_t number = byte_queue->front;
-    size_t number2 = byte_queue->cells.len - number;
-    size_t number3 = number2 < count ? number2 : count;
-    return uart_make_pair_of_slice(uart_make_slice(&cells[number], number3),
-        uart_make_slice(cells, count - number3));
+    size_t front = byte_queue->front;
+    size_t to_end = byte_queue->cells.len - front;
+    size_t some = to_end < count ? to_end : count;
+    struct uart_slices slices = { { &cells[front], some }, { cells, count - some } };
+    return slices;
 }
 
 /*
  * Sends one burst of the bytes that may be sent, if the chip has room, and returns how many.
  *
- * Proved: nothing if there are no bytes; else a send check and, if it succeeds, bytes from
- * the front are written to DATA: as many as a FIFO of the size that is set holds, or one if
- * it is off. The result is how many.
+ * Proved: nothing if there are no bytes; else a send check and, if it succeeds, bytes from the
+ * front are written to DATA: as many as a FIFO of the size that is set holds, or one if it is off.
+ * The result is how many.
  */
 static inline size_t uart_ring_send_sendable(struct u16550_core_ring *ring)
 {
     if (ring->stuck.is_some)
         return 0;
-    struct uart_pair_of_slice pair =
-        uart_byte_queue_front_slices(&ring->transmit, ring->is_held ? 0 : ring->transmit.len);
-    return uart_send_gathered(&ring->uart, ring->urgent, pair.first.data, pair.first.len,
-        pair.second.data, pair.second.len);
+    struct uart_slices slices =
+        uart_byte_queue_front_parts(&ring->transmit, ring->is_held ? 0 : ring->transmit.len);
+    return uart_send_gathered(&ring->uart, ring->urgent, slices.front.data, slices.front.len,
+        slices.rest.data, slices.rest.len);
 }
 
 /*
- * Drops bytes from the front of the transmit ring, and notes it if the ring falls to the low
- * mark.
+ * Drops bytes from the front of the transmit ring, and notes it if the ring falls to the low mark.
  */
 static inline void uart_ring_drop_queued(struct u16550_core_ring *ring, size_t count)
 {
@@ -5259,9 +4144,9 @@ static void uart_ring_drop_sent(struct u16550_core_ring *ring, size_t count)
 {
     if (count == 0)
         return;
-    struct u16550_core_maybe_u8 found = ring->urgent;
-    ring->urgent = uart_no_u8();
-    if (found.is_some)
+    struct u16550_core_maybe_u8 urgent = ring->urgent;
+    ring->urgent.is_some = false;
+    if (urgent.is_some)
         uart_ring_drop_queued(ring, count - 1);
     else
         uart_ring_drop_queued(ring, count);
@@ -5295,9 +4180,9 @@ static inline bool uart_ring_has_sendable(const struct u16550_core_ring *ring)
  * IER is read and written each time, even if it need not change: only the chip knows what IER
  * holds, and a caller may have changed it.
  *
- * Proved: a pump: send_bytes of the bytes that may be sent, which is one burst of them, and
- * those that were sent no longer wait; then THR_EMPTY is enabled or disabled. Without an
- * urgent byte, a hold or a stuck chip these are the bytes of the transmit ring.
+ * Proved: a pump: u16550_send_bytes of the bytes that may be sent, which is one burst of them, and
+ * those that were sent no longer wait; then THR_EMPTY is enabled or disabled. Without an urgent
+ * byte, a hold or a stuck chip these are the bytes of the transmit ring.
  */
 static inline void uart_ring_pump(struct u16550_core_ring *ring)
 {
@@ -5309,87 +4194,88 @@ static inline void uart_ring_pump(struct u16550_core_ring *ring)
 }
 
 /*
- * Puts this byte before all bytes that wait to be sent, and sends if the chip has room.
- * Returns the urgent byte that still waited, which this one replaces.
+ * Puts this byte before all bytes that wait to be sent, and sends if the chip has room. Returns
+ * the urgent byte that still waited, which this one replaces.
  *
- * This is for the flow control of a terminal: an XON or XOFF goes out after what is in the
- * chip, even while the transmit ring is held. The newest one counts, so it replaces one that
- * waits. With CTS checking it waits, as all bytes do, until the remote is clear to send.
+ * This is for the flow control of a terminal: an XON or XOFF goes out after what is in the chip,
+ * even while the transmit ring is held. The newest one counts, so it replaces one that waits. With
+ * CTS checking it waits, as all bytes do, until the remote is clear to send.
  *
  * Does not wait.
  *
- * Proved: the byte is the urgent one, in place of one that waited, which is returned; and
- * what the chip takes at once is sent.
+ * Proved: the byte is the urgent one, in place of one that waited, which is returned; and what the
+ * chip takes at once is sent.
  */
-static inline struct u16550_core_maybe_u8
-uart_ring_queue_urgent(struct u16550_core_ring *ring, uint8_t byte)
+static inline bool
+uart_ring_queue_urgent(struct u16550_core_ring *ring, uint8_t byte, uint8_t *byte_of)
 {
-    struct u16550_core_maybe_u8 found = ring->urgent;
-    ring->urgent = uart_some_u8(byte);
+    struct u16550_core_maybe_u8 urgent = ring->urgent;
+    ring->urgent.is_some = true;
+    ring->urgent.value = byte;
     uart_ring_pump(ring);
-    return found;
+    *byte_of = urgent.value;
+    return urgent.is_some;
 }
 
 /*
  * Tells the other end to go on, or to stop, unless it was told so last. Returns what was told.
  *
- * Proved: the character for this is the urgent byte, and it is what was told last; the
- * result is that character. Or nothing is done.
+ * Proved: the character for this is the urgent byte, and it is what was told last; the result is
+ * that character. Or nothing is done.
  */
-static inline struct u16550_core_maybe_u8 uart_ring_tell(struct u16550_core_ring *ring, bool on)
+static bool uart_ring_tell(struct u16550_core_ring *ring, bool on, uint8_t *byte)
 {
     if (ring->urgent.is_some || (ring->has_told_xoff != on))
-        return uart_no_u8();
+        return false;
     ring->has_told_xoff = !on;
-    uint8_t number = on ? 17 : 19;
-    uart_ring_queue_urgent(ring, number);
-    return uart_some_u8(number);
+    uint8_t character = on ? (uint8_t)UART_XON : (uint8_t)UART_XOFF;
+    uint8_t found_byte;
+    uart_ring_queue_urgent(ring, character, &found_byte);
+    *byte = character;
+    return true;
 }
 
 /*
- * Holds the other end back, or lets it go on, by XOFF and XON, where RTS is not wired: tells
- * it XOFF if the receive ring has room for fewer than marks.hold bytes, and XON if it has
- * room for at least marks.release. Returns the character, or None if none was to be told.
+ * Holds the other end back, or lets it go on, by XOFF and XON, where RTS is not wired: tells it
+ * XOFF if the receive ring has room for fewer than marks.hold bytes, and XON if it has room for at
+ * least marks.release. Returns the character, or none if none was to be told.
  *
- * The character goes out before all bytes that wait, also while the transmit ring is held, as
- * that of a queue_urgent. What was told last is not told again. While another urgent byte
- * waits, nothing is told; the next call does it. Once XOFF was told, marks of 0 let the other
- * end go on in any case.
+ * The character goes out before all bytes that wait, also while the transmit ring is held, as that
+ * of a u16550_ring_queue_urgent. What was told last is not told again. While another urgent byte
+ * waits, nothing is told; the next call does it. Once XOFF was told, marks of 0 let the other end
+ * go on in any case.
  *
- * The other end sends on until it has read the XOFF, which comes after what is in the chip.
- * So choose hold with room for that, and release not above the capacity of the receive
- * ring, or the other end would stop for ever. The other end takes each byte of the value of an
- * XON or XOFF for one: this is for text.
+ * The other end sends on until it has read the XOFF, which comes after what is in the chip. So
+ * choose hold with room for that, and release not above the capacity of the receive ring, or the
+ * other end would stop for ever. The other end takes each byte of the value of an XON or XOFF for
+ * one: this is for text.
  *
- * Call it at the end of the interrupt handler, and after each take and clear_receive, as
- * adjust_rts.
+ * Call it at the end of the interrupt handler, and after each u16550_ring_take and
+ * u16550_ring_clear_receive, as u16550_ring_adjust_rts.
  *
- * Does not wait. If it tells something, it makes the accesses of a queue_urgent. Otherwise
- * it makes none.
+ * Does not wait. If it tells something, it makes the accesses of a u16550_ring_queue_urgent.
+ * Otherwise it makes none.
  *
- * Proved: the other end is told XOFF if the receive ring has room for fewer bytes than hold,
- * and XON if it has room for release or more, as a queue_urgent sends it. What was told last
- * is not told again, and nothing is told while another urgent byte waits. The result is what
+ * Proved: the other end is told XOFF if the receive ring has room for fewer bytes than hold, and
+ * XON if it has room for release or more, as a u16550_ring_queue_urgent sends it. What was told
+ * last is not told again, and nothing is told while another urgent byte waits. The result is what
  * was told.
  */
-static inline struct u16550_core_maybe_u8
-uart_ring_adjust_xoff(struct u16550_core_ring *ring, struct uart_receive_marks marks)
+static inline bool
+uart_ring_adjust_xoff(struct u16550_core_ring *ring, struct uart_receive_marks marks, uint8_t *byte)
 {
-    struct uart_maybe_bool found = uart_ring_may_send(ring, marks);
-    if (!found.is_some)
-        return uart_no_u8();
-    return uart_ring_tell(ring, found.value);
+    bool may;
+    return uart_ring_may_send(ring, marks, &may) && uart_ring_tell(ring, may, byte);
 }
 
 /*
  * Ends a pause if so many bytes have left the receive ring.
  *
- * Proved: this if the count is more than 0, else nothing at all.
  * Proved: if receiving is paused, DATA_READY is enabled, and the pause ends.
  */
 static inline void uart_ring_end_pause(struct u16550_core_ring *ring, size_t count)
 {
-    if (0 < count && ring->is_paused) {
+    if (count > 0 && ring->is_paused) {
         uart_enable_interrupts(&ring->uart, U16550_IER_DATA_READY);
         ring->is_paused = false;
     }
@@ -5398,75 +4284,74 @@ static inline void uart_ring_end_pause(struct u16550_core_ring *ring, size_t cou
 /*
  * Drops the bytes of the receive ring, and returns how many. What is in the chip stays there.
  *
- * Does not wait. If it drops at least one byte and receiving is paused, it enables
- * DATA_READY again and ends the pause, as take does. Otherwise it makes no access.
+ * Does not wait. If it drops at least one byte and receiving is paused, it enables DATA_READY
+ * again and ends the pause, as u16550_ring_take does. Otherwise it makes no access.
  *
- * Proved: the receive ring is emptied, and the result is how many bytes it had; if it had
- * any, a pause of receiving ends.
+ * Proved: the receive ring is emptied, and the result is how many bytes it had; if it had any, a
+ * pause of receiving ends.
  */
 static inline size_t uart_ring_clear_receive(struct u16550_core_ring *ring)
 {
-    size_t number = ring->receive.len;
-    uart_byte_queue_drop_front(&ring->receive, number);
-    uart_ring_end_pause(ring, number);
-    return number;
+    size_t len = ring->receive.len;
+    uart_byte_queue_drop_front(&ring->receive, len);
+    uart_ring_end_pause(ring, len);
+    return len;
 }
 
 /*
  * Drops the bytes of the transmit ring, and returns how many.
  *
- * An urgent byte, and what is in the chip, still go out. Makes no access: if THR_EMPTY is
- * enabled, it is disabled when its next interrupt is served.
+ * An urgent byte, and what is in the chip, still go out. Makes no access: if THR_EMPTY is enabled,
+ * it is disabled when its next interrupt is served.
  *
- * Proved: the transmit ring is emptied without an access, and the result is how many bytes
- * it had.
+ * Proved: the transmit ring is emptied without an access, and the result is how many bytes it had.
  */
 static inline size_t uart_ring_clear_transmit(struct u16550_core_ring *ring)
 {
-    size_t number = ring->transmit.len;
-    uart_ring_drop_queued(ring, number);
-    return number;
+    size_t len = ring->transmit.len;
+    uart_ring_drop_queued(ring, len);
+    return len;
 }
 
 /*
  * Starts sending again if bytes wait in the transmit ring with no interrupt to come.
  *
- * If bytes wait, it sends one burst of them if the chip has room, as queue does. Then it
- * enables THR_EMPTY if bytes are left in the ring, else it disables it. The rest is sent
- * when that interrupt is served. If none wait, it makes no access.
+ * If bytes wait, it sends one burst of them if the chip has room, as u16550_ring_queue does. Then
+ * it enables THR_EMPTY if bytes are left in the ring, else it disables it. The rest is sent when
+ * that interrupt is served. If none wait, it makes no access.
  *
  * Does not wait. Call it
  *
- * - after an init through inner_mut, which disables THR_EMPTY and may acknowledge its
- *   interrupt;
- * - with CTS checking, when take_modem reports that CTS came back. While CTS is clear, it
- *   sends nothing.
+ * - after an u16550_init, which disables THR_EMPTY and may acknowledge its interrupt;
+ * - with CTS checking, when u16550_ring_take_modem reports that CTS came back. While CTS is clear,
+ *   it sends nothing.
  *
- * Proved: if bytes wait, what the chip takes at once is sent, and THR_EMPTY is enabled if
- * some are left, else disabled.
+ * Proved: if bytes wait, what the chip takes at once is sent, and THR_EMPTY is enabled if some are
+ * left, else disabled.
  */
 static inline void uart_ring_resume_transmit(struct u16550_core_ring *ring)
 {
-    bool is_so = ring->urgent.is_some;
-    if (is_so || !uart_byte_queue_is_empty(&ring->transmit))
+    bool has_urgent = ring->urgent.is_some;
+    if (has_urgent || !uart_byte_queue_is_empty(&ring->transmit))
         uart_ring_pump(ring);
 }
 
 /*
- * Reads all registers, as the driver's config_register_dump does, and then sends bytes that
- * wait, as resume_transmit does.
+ * Reads all registers, as the driver's u16550_ring_config_register_dump does, and then sends bytes
+ * that wait, as u16550_ring_resume_transmit does.
  *
- * ISR is among the registers, and a read of it that shows THR_EMPTY acknowledges that
- * interrupt. So after the driver's own call, through inner_mut, bytes in the transmit ring
- * may wait for ever. After this call they do not.
+ * ISR is among the registers, and a read of it that shows THR_EMPTY acknowledges that interrupt.
+ * So after the driver's own call, bytes in the transmit ring may wait for ever. After this call
+ * they do not.
  *
- * take_line and take_modem still return what the reads of LSR and MSR have cleared.
+ * u16550_ring_take_line and u16550_ring_take_modem still return what the reads of LSR and MSR have
+ * cleared.
  *
- * Does not wait. Under DLAB, which is set meanwhile, the divisor latch is read in place of
- * DATA and IER: mask the interrupt, as for every call.
+ * Does not wait. Under DLAB, which is set meanwhile, the divisor latch is read in place of DATA
+ * and IER: mask the interrupt, as for every call.
  *
- * Proved: the dump of the driver, whose read of ISR may acknowledge THR_EMPTY; and then
- * sending resumes.
+ * Proved: the dump of the driver, whose read of ISR may acknowledge THR_EMPTY; and then sending
+ * resumes.
  */
 static inline struct u16550_dump uart_ring_config_register_dump(struct u16550_core_ring *ring)
 {
@@ -5475,25 +4360,25 @@ static inline struct u16550_dump uart_ring_config_register_dump(struct u16550_co
     return dump;
 }
 
-/* Returns the bytes in order, as two slices. */
-static inline struct uart_pair_of_slice
-uart_byte_queue_as_slices(const struct u16550_core_byte_queue *byte_queue)
+/* Returns the bytes in order, as two arrays. */
+static inline struct uart_slices
+uart_byte_queue_parts(const struct u16550_core_byte_queue *byte_queue)
 {
-    return uart_byte_queue_front_slices(byte_queue, byte_queue->len);
+    return uart_byte_queue_front_parts(byte_queue, byte_queue->len);
 }
 
 /* Returns the byte at this place, from the front on. */
 static inline uint8_t
 uart_byte_queue_byte_at(const struct u16550_core_byte_queue *byte_queue, size_t place)
 {
-    struct uart_pair_of_slice pair = uart_byte_queue_as_slices(byte_queue);
-    return place < pair.first.len ? pair.first.data[place]
-        : pair.second.data[place - pair.first.len];
+    struct uart_slices slices = uart_byte_queue_parts(byte_queue);
+    return place < slices.front.len ? slices.front.data[place]
+        : slices.rest.data[place - slices.front.len];
 }
 
 /*
- * Copies the first bytes with the errors that are noted of them to the slots, as many as both have,
- * and returns how many. More may be noted before the first byte.
+ * Copies the first bytes with the errors that are noted of them to the slots, as many as both
+ * have, and returns how many. More may be noted before the first byte.
  */
 static size_t
 uart_copy_with_errors(const struct u16550_core_byte_queue *bytes,
@@ -5504,7 +4389,8 @@ uart_copy_with_errors(const struct u16550_core_byte_queue *bytes,
         if (place == bytes->len)
             return place;
         uint8_t byte = uart_byte_queue_byte_at(bytes, place);
-        slots[place] = uart_make_received(byte, uart_byte_queue_byte_at(noted, before + place));
+        slots[place].byte = byte;
+        slots[place].errors = uart_byte_queue_byte_at(noted, before + place);
     }
     return slots_len;
 }
@@ -5513,40 +4399,44 @@ uart_copy_with_errors(const struct u16550_core_byte_queue *bytes,
  * Copies the first bytes with the errors that are noted of them, as many as there are slots, and
  * returns how many, unless fewer errors are noted than there are bytes.
  */
-static inline struct uart_u64_or_unnoted_error
+static inline int
 uart_copy_noted(const struct u16550_core_byte_queue *bytes,
-    const struct u16550_core_byte_queue *noted, struct u16550_received *slots, size_t slots_len)
+    const struct u16550_core_byte_queue *noted, struct u16550_received *slots, size_t slots_len,
+    size_t *count, size_t *unnoted)
 {
-    if (noted->len < bytes->len)
-        return uart_bad_u64_or_unnoted_error(bytes->len - noted->len);
-    return uart_good_u64_or_unnoted_error(uart_copy_with_errors(bytes, noted, slots, slots_len));
+    if (noted->len < bytes->len) {
+        *unnoted = bytes->len - noted->len;
+        return U16550_RING_UNNOTED;
+    }
+    *count = uart_copy_with_errors(bytes, noted, slots, slots_len);
+    return U16550_OK;
 }
 
 /*
- * Copies received bytes from the front of the receive ring, each with the errors that these
- * notes have of it, as many as there are slots, and returns how many. Takes none of them, and
- * leaves the other slots unchanged.
+ * Copies received bytes from the front of the receive ring, each with the errors that these notes
+ * have of it, as many as there are slots, and returns how many. Takes none of them, and leaves the
+ * other slots unchanged.
  *
  * It is for a backend that reaches the notes somewhere else, as through a pointer. What
- * take_with_errors does, this and a take of so many bytes do.
- * The notes are those that each access of the driver goes through; others tell of other bytes.
+ * u16550_ring_take_with_errors does, this and a u16550_ring_take of so many bytes do. The notes
+ * are those that each access of the driver goes through; others tell of other bytes.
  *
  * Errors
  *
- * UnnotedError if fewer errors are noted than bytes are in the receive ring. Then nothing is
- * copied.
+ * U16550_RING_UNNOTED if fewer errors are noted than bytes are in the receive ring. Then nothing
+ * is copied.
  */
-static inline struct uart_u64_or_unnoted_error
+static inline int
 uart_ring_copy_with_notes(const struct u16550_core_ring *ring,
-    const struct u16550_core_error_notes *notes, struct u16550_received *slots, size_t slots_len)
+    const struct u16550_core_error_notes *notes, struct u16550_received *slots, size_t slots_len,
+    size_t *count, size_t *unnoted)
 {
-    return uart_copy_noted(&ring->receive, &notes->noted, slots, slots_len);
+    return uart_copy_noted(&ring->receive, &notes->noted, slots, slots_len, count, unnoted);
 }
 
 /*
  * Drops so many bytes that were taken from the front of the receive ring.
  *
- * Proved: this if the count is more than 0, else nothing at all.
  * Proved: if receiving is paused, DATA_READY is enabled, and the pause ends.
  */
 static inline void uart_ring_drop_taken(struct u16550_core_ring *ring, size_t count)
@@ -5558,47 +4448,48 @@ static inline void uart_ring_drop_taken(struct u16550_core_ring *ring, size_t co
 /*
  * Returns the interrupt that the low nibble of an ISR value identifies.
  *
- * Returns None if bit 0 is set, since no interrupt is pending then, and also for the code
- * 100 in bits 3 to 1, although an interrupt is pending then.
+ * Returns none if bit 0 is set, since no interrupt is pending then, and also for the code 100 in
+ * bits 3 to 1, although an interrupt is pending then.
  *
- * Proved: the one value that has the property, or none if no value has it.
- * Proved: bit 0 is clear, so an interrupt is pending, and the code is that of this
- * interrupt.
+ * Proved: bit 0 is clear, so an interrupt is pending, and the code is that of this interrupt.
  */
-static struct uart_maybe_interrupt_type uart_interrupt_type_from_bits(uint8_t isr_bits)
+static bool uart_interrupt_type_from_bits(uint8_t isr_bits, uint8_t *interrupt)
 {
-    switch (isr_bits & 15) {
-    case 6:
-        return uart_some_interrupt_type(U16550_CORE_INTERRUPT_TYPE_RECEIVER_LINE_STATUS);
-    case 4:
-        return uart_some_interrupt_type(U16550_CORE_INTERRUPT_TYPE_RECEIVED_DATA_READY);
-    case 12:
-        return uart_some_interrupt_type(U16550_CORE_INTERRUPT_TYPE_RECEPTION_TIMEOUT);
-    case 2:
-        return uart_some_interrupt_type(
-            U16550_CORE_INTERRUPT_TYPE_TRANSMITTER_HOLDING_REGISTER_EMPTY);
+    switch (isr_bits & (U16550_ISR_INTERRUPT_STATUS | U16550_ISR_IIC_0 | U16550_ISR_IIC_1 | U16550_ISR_IIC_2)) {
+    case 0x06:
+        *interrupt = U16550_CORE_INTERRUPT_TYPE_RECEIVER_LINE_STATUS;
+        return true;
+    case 0x04:
+        *interrupt = U16550_CORE_INTERRUPT_TYPE_RECEIVED_DATA_READY;
+        return true;
+    case 0x0c:
+        *interrupt = U16550_CORE_INTERRUPT_TYPE_RECEPTION_TIMEOUT;
+        return true;
+    case 0x02:
+        *interrupt = U16550_CORE_INTERRUPT_TYPE_TRANSMITTER_HOLDING_REGISTER_EMPTY;
+        return true;
     case 0:
-        return uart_some_interrupt_type(U16550_CORE_INTERRUPT_TYPE_MODEM_STATUS);
-    case 14:
-        return uart_some_interrupt_type(U16550_CORE_INTERRUPT_TYPE_DMA_RECEPTION_END_OF_TRANSFER);
-    case 10:
-        return uart_some_interrupt_type(
-            U16550_CORE_INTERRUPT_TYPE_DMA_TRANSMISSION_END_OF_TRANSFER);
+        *interrupt = U16550_CORE_INTERRUPT_TYPE_MODEM_STATUS;
+        return true;
+    case 0x0e:
+        *interrupt = U16550_CORE_INTERRUPT_TYPE_DMA_RECEPTION_END_OF_TRANSFER;
+        return true;
+    case 0x0a:
+        *interrupt = U16550_CORE_INTERRUPT_TYPE_DMA_TRANSMISSION_END_OF_TRANSFER;
+        return true;
     default:
-        return uart_no_interrupt_type();
+        return false;
     }
 }
 
 /*
  * Returns the pending interrupt. None if none is pending, or if its code is not known.
  *
- * Proved: the one value that has the property, or none if no value has it.
- * Proved: bit 0 is clear, so an interrupt is pending, and the code is that of this
- * interrupt.
+ * Proved: bit 0 is clear, so an interrupt is pending, and the code is that of this interrupt.
  */
-static inline struct uart_maybe_interrupt_type uart_isr_interrupt_type(uint8_t isr)
+static inline bool uart_isr_interrupt_type(uint8_t isr, uint8_t *interrupt)
 {
-    return uart_interrupt_type_from_bits(isr);
+    return uart_interrupt_type_from_bits(isr, interrupt);
 }
 
 /* Returns whether an interrupt is pending: bit 0 is clear then. */
@@ -5610,22 +4501,20 @@ static inline bool uart_isr_has_pending_interrupt(uint8_t isr)
 /*
  * Notes the errors that LSR shows, and those that the driver has saved.
  *
- * Proved: lsr, of which the line errors are noted.
+ * Proved: u16550_lsr, of which the line errors are noted.
  */
 static inline void uart_ring_note_line(struct u16550_core_ring *ring)
 {
-    uint8_t lsr =
-        uart_lsr(&ring->uart) & (U16550_LSR_OVERRUN_ERROR | U16550_LSR_PARITY_ERROR |
-        U16550_LSR_FRAMING_ERROR | U16550_LSR_BREAK_INTERRUPT);
+    uint8_t lsr = uart_lsr(&ring->uart) & U16550_LSR_LINE_ERRORS;
     ring->line |= lsr;
 }
 
 /*
- * Receives bytes into the cells from place on, as the driver's receive_bytes does with so many
- * slots, and returns how many. The other cells stay as they are.
+ * Receives bytes into the cells from place on, as the driver's u16550_receive_bytes does with so
+ * many slots, and returns how many. The other cells stay as they are.
  *
- * Proved: bytes are read from DATA, each after LSR shows it, until the slots are full, or
- * LSR shows none.
+ * Proved: bytes are read from DATA, each after LSR shows it, until the slots are full, or LSR
+ * shows none.
  */
 static inline size_t
 uart_receive(struct u16550_core_driver *uart, uint8_t *cells, size_t cells_len, size_t place,
@@ -5636,23 +4525,23 @@ uart_receive(struct u16550_core_driver *uart, uint8_t *cells, size_t cells_len, 
 }
 
 /*
- * Appends bytes that the driver receives, as its receive_bytes does with so many slots, and
+ * Appends bytes that the driver receives, as its u16550_receive_bytes does with so many slots, and
  * returns how many.
  */
 static size_t
 uart_byte_queue_receive_from(struct u16550_core_byte_queue *byte_queue,
     struct u16550_core_driver *uart, size_t slots)
 {
-    size_t number = byte_queue->front;
-    size_t number2 = byte_queue->len;
-    size_t behind = uart_cell_behind(number, number2, uart_byte_queue_capacity(byte_queue));
+    size_t front = byte_queue->front;
+    size_t len = byte_queue->len;
+    size_t behind = uart_cell_behind(front, len, uart_byte_queue_capacity(byte_queue));
     uint8_t *cells = byte_queue->cells.data;
     size_t cells_len = byte_queue->cells.len;
-    size_t number3 = cells_len - behind;
-    size_t number4 = number3 < slots ? number3 : slots;
-    size_t before = uart_receive(uart, cells, cells_len, behind, number4);
+    size_t to_end = cells_len - behind;
+    size_t some = to_end < slots ? to_end : slots;
+    size_t before = uart_receive(uart, cells, cells_len, behind, some);
     size_t count =
-        before + uart_receive(uart, cells, cells_len, 0, before == number4 ? slots - number4 : 0);
+        before + uart_receive(uart, cells, cells_len, 0, before == some ? slots - some : 0);
     byte_queue->len += count;
     return count;
 }
@@ -5660,13 +4549,13 @@ uart_byte_queue_receive_from(struct u16550_core_byte_queue *byte_queue,
 /* Returns whether there is no room for another byte. */
 static inline bool uart_byte_queue_is_full(const struct u16550_core_byte_queue *byte_queue)
 {
-    size_t number = byte_queue->len;
-    return number == uart_byte_queue_capacity(byte_queue);
+    size_t len = byte_queue->len;
+    return len == uart_byte_queue_capacity(byte_queue);
 }
 
 /*
- * Pauses receiving if the receive ring is full. The data interrupt does not end until the data
- * are read, so the handler would be called without end.
+ * Pauses receiving if the receive ring is full. The data interrupt does not end until the data are
+ * read, so the handler would be called without end.
  *
  * Proved: if the receive ring is full, DATA_READY is disabled and receiving is paused.
  */
@@ -5682,39 +4571,37 @@ static inline void uart_ring_pause_if_full(struct u16550_core_ring *ring)
  * Receives bytes into the receive ring: as many as a FIFO of the size that is set holds, and as
  * there is room for.
  *
- * Proved: receive_bytes into as many slots as the receive ring has room for, at most as many
- * as a FIFO of the size that is set holds; the bytes are appended to it.
+ * Proved: u16550_receive_bytes into as many slots as the receive ring has room for, at most as
+ * many as a FIFO of the size that is set holds; the bytes are appended to it.
  */
 static void uart_ring_fill_receive_ring(struct u16550_core_ring *ring)
 {
-    size_t number = ring->receive.len;
-    size_t most = uart_fifo_size_characters(ring->uart.fifo_size);
-    size_t number2 = uart_byte_queue_capacity(&ring->receive) - number;
+    size_t len = ring->receive.len;
+    size_t most = uart_fifo_depth(ring->uart.fifo_size);
+    size_t room = uart_byte_queue_capacity(&ring->receive) - len;
     size_t count =
-        uart_byte_queue_receive_from(&ring->receive, &ring->uart, number2 < most ? number2 : most);
-    size_t number3 = ring->unlooked;
-    ring->unlooked = (number < number3 ? number : number3) + count;
+        uart_byte_queue_receive_from(&ring->receive, &ring->uart, room < most ? room : most);
+    size_t unlooked = ring->unlooked;
+    ring->unlooked = (len < unlooked ? len : unlooked) + count;
     uart_ring_pause_if_full(ring);
 }
 
 /*
  * Notes the changes that MSR shows, and those that the driver has saved.
  *
- * Proved: msr, of which the changes are noted.
+ * Proved: u16550_msr, of which the changes are noted.
  */
 static inline void uart_ring_note_modem(struct u16550_core_ring *ring)
 {
-    uint8_t msr =
-        uart_msr(&ring->uart) & (U16550_MSR_DELTA_CTS | U16550_MSR_DELTA_DSR |
-        U16550_MSR_TRAILING_EDGE_RI | U16550_MSR_DELTA_CD);
+    uint8_t msr = uart_msr(&ring->uart) & U16550_MSR_CHANGES;
     ring->modem |= msr;
 }
 
 /*
  * Serves one interrupt.
  *
- * Proved: how an interrupt is served: bytes are received, a pump is made, a status is noted,
- * or nothing is done.
+ * Proved: how an interrupt is served: bytes are received, a pump is made, a status is noted, or
+ * nothing is done.
  */
 static void uart_ring_serve(struct u16550_core_ring *ring, uint8_t interrupt)
 {
@@ -5740,41 +4627,43 @@ static void uart_ring_serve(struct u16550_core_ring *ring, uint8_t interrupt)
 }
 
 /*
- * Serves the interrupts that ISR identifies, at most limit. Returns how many, and why it
- * serves no more.
+ * Serves the interrupts that ISR identifies, at most limit. Returns how many, and why it serves no
+ * more.
  *
  * Proved: as many interrupts as are pending are served, but no more than the limit.
  */
-static struct uart_handled uart_ring_serve_up_to(struct u16550_core_ring *ring, size_t limit)
+static struct u16550_handled uart_ring_serve_up_to(struct u16550_core_ring *ring, size_t limit)
 {
     for (size_t served = 0; served < limit; served++) {
         uint8_t isr = uart_isr(&ring->uart);
-        struct uart_maybe_interrupt_type found = uart_isr_interrupt_type(isr);
-        if (!found.is_some) {
-            return uart_make_handled(served,
-                uart_isr_has_pending_interrupt(isr) ? UART_HANDLE_END_UNKNOWN
-                : UART_HANDLE_END_IDLE);
+        uint8_t interrupt;
+        if (!uart_isr_interrupt_type(isr, &interrupt)) {
+            struct u16550_handled handled =
+                { served,
+                uart_isr_has_pending_interrupt(isr) ? (uint8_t)U16550_HANDLE_UNKNOWN
+                : (uint8_t)U16550_HANDLE_IDLE };
+            return handled;
         }
-        uart_ring_serve(ring, found.value);
+        uart_ring_serve(ring, interrupt);
     }
-    return uart_make_handled(limit, UART_HANDLE_END_LIMIT);
+    struct u16550_handled at_limit = { limit, U16550_HANDLE_LIMIT };
+    return at_limit;
 }
 
 /*
  * Makes the chip's interrupt line fall, and rise again if an interrupt is enabled and pending:
  * reads IER, writes 0, and writes back what it read.
  *
- * An interrupt controller that detects edges sees no new edge while the line stays high, so
- * it would not call the handler again. handle retriggers where that is needed. Call this
+ * An interrupt controller that detects edges sees no new edge while the line stays high, so it
+ * would not call the handler again. u16550_ring_handle retriggers where that is needed. Call this
  * yourself
  *
  * - at the end of a handler of your own that returns before ISR has shown that no interrupt is
  *   pending;
- * - after the interrupt was unmasked at a controller that forgets the edges that come while it
- *   is masked, as an I/O APIC does.
+ * - after the interrupt was unmasked at a controller that forgets the edges that come while it is
+ *   masked, as an I/O APIC does.
  *
- * If THR_EMPTY is enabled and the transmitter is empty, the chip raises that interrupt
- * again.
+ * If THR_EMPTY is enabled and the transmitter is empty, the chip raises that interrupt again.
  *
  * Does not wait: makes three accesses.
  *
@@ -5786,44 +4675,44 @@ static inline void uart_ring_retrigger(struct u16550_core_ring *ring)
 }
 
 /*
- * Handles the chip's interrupt: serves what is pending, as service does, but at most limit
- * interrupts. Returns how many it served, and why it ended.
+ * Handles the chip's interrupt: serves what is pending, as u16550_ring_service does, but at most
+ * limit interrupts. Returns how many it served, and why it ended.
  *
  * Call it once each time the interrupt handler runs, whether the interrupt controller detects
  * levels or edges:
  *
- * - If the end is Idle, no interrupt is pending, and the line is low. The next interrupt
- *   makes the line rise.
- * - Otherwise an interrupt may be left, and handle makes the line fall and rise again, as
- *   retrigger does. So the controller calls the handler again.
+ * - If the end is Idle, no interrupt is pending, and the line is low. The next interrupt makes the
+ *   line rise.
+ * - Otherwise an interrupt may be left, and u16550_ring_handle makes the line fall and rise again,
+ *   as u16550_ring_retrigger does. So the controller calls the handler again.
  *
- * A broken chip may show interrupts for ever, and the controller then calls the handler for
- * ever. So count the calls in a row that do not end with Idle, and after a number of them
- * disable the chip's interrupts.
+ * A broken chip may show interrupts for ever, and the controller then calls the handler for ever.
+ * So count the calls in a row that do not end with Idle, and after a number of them disable the
+ * chip's interrupts.
  *
  * Does not wait: makes at most 35 accesses for each interrupt of the limit, and 3 more. With a
  * larger fifo_size of the driver it is twice that size and 3 in place of the 35.
  *
- * Proved: as many interrupts as are pending are served, but no more than the limit. Then,
- * unless ISR has shown that none is pending, IER is read, and written with 0 and with what
- * was read: what is left is triggered again.
+ * Proved: as many interrupts as are pending are served, but no more than the limit. Then, unless
+ * ISR has shown that none is pending, IER is read, and written with 0 and with what was read: what
+ * is left is triggered again.
  */
-static inline struct uart_handled uart_ring_handle(struct u16550_core_ring *ring, size_t limit)
+static inline struct u16550_handled uart_ring_handle(struct u16550_core_ring *ring, size_t limit)
 {
-    struct uart_handled handled = uart_ring_serve_up_to(ring, limit);
-    if (handled.end != UART_HANDLE_END_IDLE)
+    struct u16550_handled handled = uart_ring_serve_up_to(ring, limit);
+    if (handled.end != U16550_HANDLE_IDLE)
         uart_ring_retrigger(ring);
     return handled;
 }
 
 /*
- * Holds the transmit ring: none of its bytes is handed to the chip until release_transmit.
+ * Holds the transmit ring: none of its bytes is handed to the chip until
+ * u16550_ring_release_transmit.
  *
- * What is in the chip goes out: a held ring stops with at most as many characters of delay as
- * the FIFO holds. queue accepts bytes as before, and an urgent byte still goes out.
+ * What is in the chip goes out: a held ring stops with at most as many characters of delay as the
+ * FIFO holds. u16550_ring_queue accepts bytes as before, and an urgent byte still goes out.
  *
- * Makes no access. If THR_EMPTY is enabled, it is disabled when its next interrupt is
- * served.
+ * Makes no access. If THR_EMPTY is enabled, it is disabled when its next interrupt is served.
  *
  * Proved: the ring is held, and no access is made.
  */
@@ -5841,8 +4730,8 @@ static inline bool uart_ring_is_held(const struct u16550_core_ring *ring)
 /*
  * Returns whether receiving is paused because the receive ring was full. Makes no access.
  *
- * During a pause DATA_READY is disabled and received bytes stay in the chip, which loses
- * some if there are more than it has room for. The next take of at least one byte ends the
+ * During a pause DATA_READY is disabled and received bytes stay in the chip, which loses some if
+ * there are more than it has room for. The next u16550_ring_take of at least one byte ends the
  * pause.
  */
 static inline bool uart_ring_is_paused(const struct u16550_core_ring *ring)
@@ -5851,8 +4740,8 @@ static inline bool uart_ring_is_paused(const struct u16550_core_ring *ring)
 }
 
 /*
- * Returns whether a byte has moved between the rings and the chip since there were so many in
- * the rings.
+ * Returns whether a byte has moved between the rings and the chip since there were so many in the
+ * rings.
  */
 static inline bool
 uart_ring_has_moved(const struct u16550_core_ring *ring, size_t transmit, bool is_urgent,
@@ -5863,43 +4752,51 @@ uart_ring_has_moved(const struct u16550_core_ring *ring, size_t transmit, bool i
 }
 
 /* Returns how a round counts that ended so: as idle if a byte moved. */
-static inline enum uart_handle_end uart_counted_as(bool has_moved, enum uart_handle_end end)
+static inline uint8_t uart_counted_as(bool has_moved, uint8_t end)
 {
-    return has_moved ? UART_HANDLE_END_IDLE : end;
+    return has_moved ? (uint8_t)U16550_HANDLE_IDLE : end;
 }
 
 /*
- * Returns why a chip that shows this is stuck, or None if no interrupt is pending.
+ * Returns why a chip that shows this is stuck, or none if no interrupt is pending.
  *
  * Proved: this is why, or no interrupt is pending.
  */
-static inline struct u16550_core_maybe_stuck_error uart_shown_by(uint8_t isr)
+static bool uart_stuck_reason(uint8_t isr, struct u16550_core_stuck_error *why)
 {
-    struct uart_maybe_interrupt_type found = uart_isr_interrupt_type(isr);
-    if (found.is_some)
-        return uart_some_stuck_error(uart_stuck_error_pending(found.value));
-    if (uart_isr_has_pending_interrupt(isr))
-        return uart_some_stuck_error(uart_stuck_error_unknown(isr));
-    return uart_no_stuck_error();
+    uint8_t interrupt;
+    if (uart_isr_interrupt_type(isr, &interrupt)) {
+        why->kind = U16550_RING_STUCK_PENDING;
+        why->pending = interrupt;
+        return true;
+    }
+    if (!uart_isr_has_pending_interrupt(isr))
+        return false;
+    why->kind = U16550_RING_STUCK_UNKNOWN;
+    why->unknown = isr;
+    return true;
 }
 
 /*
  * Reads ISR once more. If it shows an interrupt, disables all interrupts and returns why.
  *
- * Proved: ISR is read once more. If no interrupt is pending now, the chip is not stuck, and
- * the count of rounds begins again; else all interrupts are disabled.
+ * Proved: ISR is read once more. If no interrupt is pending now, the chip is not stuck, and the
+ * count of rounds begins again; else all interrupts are disabled.
  */
-static struct u16550_core_maybe_stuck_error uart_ring_look_once_more(struct u16550_core_ring *ring)
+static bool
+uart_ring_look_once_more(struct u16550_core_ring *ring, struct u16550_core_stuck_error *why)
 {
-    struct u16550_core_maybe_stuck_error found = uart_shown_by(uart_isr(&ring->uart));
-    if (found.is_some) {
-        uart_disable_interrupts(&ring->uart, 255);
+    struct u16550_core_stuck_error found_why;
+    if (uart_stuck_reason(uart_isr(&ring->uart), &found_why)) {
+        uart_disable_interrupts(&ring->uart, 0xff);
         ring->rounds = 0;
-        ring->stuck = uart_some_stuck_error(found.value);
-        return uart_some_stuck_error(found.value);
+        ring->stuck.is_some = true;
+        ring->stuck.value = found_why;
+        *why = found_why;
+        return true;
     }
     ring->rounds = 0;
-    return uart_no_stuck_error();
+    return false;
 }
 
 /*
@@ -5907,14 +4804,15 @@ static struct u16550_core_maybe_stuck_error uart_ring_look_once_more(struct u165
  *
  * Proved: a round was left unfinished. It is counted, if there may be more in a row.
  */
-static inline struct u16550_core_maybe_stuck_error
-uart_ring_count_unfinished(struct u16550_core_ring *ring, uint32_t rounds)
+static inline bool
+uart_ring_count_unfinished(struct u16550_core_ring *ring, uint32_t rounds,
+    struct u16550_core_stuck_error *why)
 {
-    if (ring->rounds < (1 <= rounds ? rounds - 1 : 0)) {
+    if (ring->rounds < (rounds >= 1 ? rounds - 1 : 0)) {
         ring->rounds++;
-        return uart_no_stuck_error();
+        return false;
     }
-    return uart_ring_look_once_more(ring);
+    return uart_ring_look_once_more(ring, why);
 }
 
 /*
@@ -5922,187 +4820,195 @@ uart_ring_count_unfinished(struct u16550_core_ring *ring, uint32_t rounds)
  *
  * Proved: how a round ended: if no interrupt is pending, the count of rounds begins again.
  */
-static inline struct u16550_core_maybe_stuck_error
-uart_ring_count_round(struct u16550_core_ring *ring, uint32_t rounds, enum uart_handle_end end)
+static inline bool
+uart_ring_count_round(struct u16550_core_ring *ring, uint32_t rounds, uint8_t end,
+    struct u16550_core_stuck_error *why)
 {
-    if (end == UART_HANDLE_END_IDLE) {
+    if (end == U16550_HANDLE_IDLE) {
         ring->rounds = 0;
-        return uart_no_stuck_error();
+        return false;
     }
-    return uart_ring_count_unfinished(ring, rounds);
+    return uart_ring_count_unfinished(ring, rounds, why);
 }
 
 /*
  * Handles the interrupt, and counts the round.
  *
- * Proved: a handle, and its round is counted.
+ * Proved: a u16550_ring_handle, and its round is counted.
  */
-static struct uart_handled_or_stuck_error
-uart_ring_handle_round(struct u16550_core_ring *ring, size_t limit, uint32_t rounds)
+static int
+uart_ring_handle_round(struct u16550_core_ring *ring, size_t limit, uint32_t rounds,
+    struct u16550_handled *handled, struct u16550_core_stuck_error *error)
 {
-    size_t number = ring->transmit.len;
-    bool is_so = ring->urgent.is_some;
-    size_t number2 = ring->receive.len;
-    struct uart_handled handled = uart_ring_handle(ring, limit);
-    struct u16550_core_maybe_stuck_error found =
-        uart_ring_count_round(ring, rounds,
-        uart_counted_as(uart_ring_has_moved(ring, number, is_so, number2), handled.end));
-    if (found.is_some)
-        return uart_bad_handled_or_stuck_error(found.value);
-    return uart_good_handled_or_stuck_error(handled);
+    size_t len = ring->transmit.len;
+    bool has_urgent = ring->urgent.is_some;
+    size_t receive = ring->receive.len;
+    struct u16550_handled found_handled = uart_ring_handle(ring, limit);
+    struct u16550_core_stuck_error why;
+    if (uart_ring_count_round(ring, rounds,
+        uart_counted_as(uart_ring_has_moved(ring, len, has_urgent, receive), found_handled.end),
+        &why)) {
+        *error = why;
+        return why.kind;
+    }
+    *handled = found_handled;
+    return U16550_OK;
 }
 
 /*
- * Handles the chip's interrupt as handle does, and ends a storm: a chip that shows an
+ * Handles the chip's interrupt as u16550_ring_handle does, and ends a storm: a chip that shows an
  * interrupt for ever gets its interrupts disabled.
  *
- * A call that does not end with Idle, and that moves no byte between the rings and the chip,
- * is a round that is left unfinished. The controller then calls the handler again, and on a
- * broken chip for ever. So this call counts such rounds. If there were rounds of them in a
- * row, the last one reads ISR once more. If that shows no interrupt, the count begins again.
- * Otherwise the chip is stuck: the call reads IER, writes 0 to it, and returns why.
+ * A call that does not end with Idle, and that moves no byte between the rings and the chip, is a
+ * round that is left unfinished. The controller then calls the handler again, and on a broken chip
+ * for ever. So this call counts such rounds. If there were rounds of them in a row, the last one
+ * reads ISR once more. If that shows no interrupt, the count begins again. Otherwise the chip is
+ * stuck: the call reads IER, writes 0 to it, and returns why.
  *
- * While the chip is stuck, the rings hand no byte to it, and each further call of try_handle
- * serves nothing, writes 0 to IER again, and returns the same error. restart starts again.
+ * While the chip is stuck, the rings hand no byte to it, and each further call of
+ * u16550_ring_try_handle serves nothing, writes 0 to IER again, and returns the same error.
+ * u16550_ring_restart starts again.
  *
- * A limit below 6 counts as 6: a chip that works may show 5 interrupts in a row without news
- * and without a byte that moves. So it leaves a round unfinished only if the rest arrives
- * while the round is served: at least limit - 5 characters or changes of the modem lines,
- * and never none. It is never found stuck, unless as many come in the course of each of
- * rounds rounds in a row. If rounds is 0 or 1, the first unfinished round is the last one.
+ * A limit below 6 counts as 6: a chip that works may show 5 interrupts in a row without news and
+ * without a byte that moves. So it leaves a round unfinished only if the rest arrives while the
+ * round is served: at least limit - 5 characters or changes of the modem lines, and never none. It
+ * is never found stuck, unless as many come in the course of each of rounds rounds in a row. If
+ * rounds is 0 or 1, the first unfinished round is the last one.
  *
- * As long as bytes move, the rounds end by themselves: a handler alone moves no more bytes
- * than wait in the transmit ring and fit into the receive ring.
+ * As long as bytes move, the rounds end by themselves: a handler alone moves no more bytes than
+ * wait in the transmit ring and fit into the receive ring.
  *
  * A chip whose line stays high while ISR shows no interrupt is not found: its rounds end with
  * Idle. DesignWare's busy detect is such a one.
  *
- * Does not wait: makes at most 35 accesses for each interrupt of the limit, which is 6 if it
- * is lower, and 6 more. With a larger fifo_size of the driver it is twice that size and 3 in
- * place of the 35.
+ * Does not wait: makes at most 35 accesses for each interrupt of the limit, which is 6 if it is
+ * lower, and 6 more. With a larger fifo_size of the driver it is twice that size and 3 in place of
+ * the 35.
  *
  * Errors
  *
  * The chip is stuck:
  *
- * - Unknown if ISR shows an interrupt without a name.
- * - Pending if ISR shows this interrupt, after so many were served.
+ * - U16550_RING_STUCK_UNKNOWN if ISR shows an interrupt without a name.
+ * - U16550_RING_STUCK_PENDING if ISR shows this interrupt, after so many were served.
  *
- * If the chip's interrupt line stays high although IER is 0, mask the interrupt at the
- * controller.
+ * If the chip's interrupt line stays high although IER is 0, mask the interrupt at the controller.
  *
- * Proved: a handle, whose round is counted, and after which the chip may be found stuck; or,
- * if the chip is stuck already, all interrupts are disabled again. The error is why it is
- * stuck.
+ * Proved: a u16550_ring_handle, whose round is counted, and after which the chip may be found
+ * stuck; or, if the chip is stuck already, all interrupts are disabled again. The error is why it
+ * is stuck.
  */
-static inline struct uart_handled_or_stuck_error
-uart_ring_try_handle(struct u16550_core_ring *ring, size_t limit, uint32_t rounds)
+static int
+uart_ring_try_handle(struct u16550_core_ring *ring, size_t limit, uint32_t rounds,
+    struct u16550_handled *handled, struct u16550_core_stuck_error *error)
 {
     if (ring->stuck.is_some) {
-        struct u16550_core_stuck_error error = ring->stuck.value;
-        uart_disable_interrupts(&ring->uart, 255);
-        return uart_bad_handled_or_stuck_error(error);
+        struct u16550_core_stuck_error found_error = ring->stuck.value;
+        uart_disable_interrupts(&ring->uart, 0xff);
+        *error = found_error;
+        return found_error.kind;
     }
-    return uart_ring_handle_round(ring, 6 < limit ? limit : 6, rounds);
+    return uart_ring_handle_round(ring,
+        limit > UART_LEAST_LIMIT ? limit : (size_t)UART_LEAST_LIMIT, rounds, handled, error);
 }
 
 /*
- * Handles the chip's interrupt as try_handle does, and then lowers the chip's interrupt
- * line: reads IER, and disables all interrupts. Returns what was handled and what was enabled.
+ * Handles the chip's interrupt as u16550_ring_try_handle does, and then lowers the chip's
+ * interrupt line: reads IER, and disables all interrupts. Returns what was handled and what was
+ * enabled.
  *
- * This is the first half of handling at a line that several ports share
- * (handle_ports); raise_line is the second. In between make no
- * other call at this port: a take that ends a pause would let its line rise.
+ * This is the first half of handling at a line that several ports share (u16550_line_handle);
+ * uart_ring_raise_line is the second. In between make no other call at this port: a
+ * u16550_ring_take that ends a pause would let its line rise.
  *
- * Does not wait: makes 3 accesses more than try_handle.
+ * Does not wait: makes 3 accesses more than u16550_ring_try_handle.
  *
- * Proved: a try_handle; then IER is read, and all interrupts are disabled.
+ * Proved: a u16550_ring_try_handle; then IER is read, and all interrupts are disabled.
  */
 static inline struct uart_lowered
 uart_ring_lower_line(struct u16550_core_ring *ring, size_t limit, uint32_t rounds)
 {
-    struct uart_handled_or_stuck_error handled = uart_ring_try_handle(ring, limit, rounds);
+    struct uart_handled_or_stuck_error handled;
+    handled.error.kind = uart_ring_try_handle(ring, limit, rounds, &handled.value, &handled.error);
     uint8_t enabled = uart_ier(&ring->uart);
-    uart_disable_interrupts(&ring->uart, 255);
-    return uart_make_lowered(handled, enabled);
+    uart_disable_interrupts(&ring->uart, 0xff);
+    struct uart_lowered lowered = { handled, enabled };
+    return lowered;
 }
 
 /*
- * Returns empty rings over this driver, for tx_capacity bytes that are to be sent and
- * rx_capacity received bytes.
+ * Returns empty rings over this driver, for tx_capacity bytes that are to be sent and rx_capacity
+ * received bytes.
  *
  * Makes no access. Allocates all memory of the rings; no later call allocates.
  *
  * Errors
  *
- * - BadCapacity if a capacity is 0 or more than MAX_CAPACITY.
- * - OutOfMemory if memory could not be allocated.
+ * - U16550_RING_BAD_CAPACITY if a capacity is 0 or more than U16550_MAX_CAPACITY.
+ * - U16550_RING_OUT_OF_MEMORY if memory could not be allocated.
  *
  * The driver is returned with the error, unchanged.
  *
  * Proved: how many bytes a ring can be made for: 1 to 4096.
  */
-static struct uart_ring_or_pair_of_driver_ring_error
+static int
 uart_ring_new(struct uart_memory *alloc, struct u16550_core_driver uart, size_t tx_capacity,
-    size_t rx_capacity)
+    size_t rx_capacity, struct u16550_core_ring *ring, struct u16550_core_driver *driver)
 {
-    struct uart_ring_or_pair_of_driver_ring_error made;
     if (!uart_is_capacity(tx_capacity) || !uart_is_capacity(rx_capacity)) {
-        made.is_error = true;
-        made.error.first = uart;
-        made.error.second = UART_RING_ERROR_BAD_CAPACITY;
-        return made;
+        *driver = uart;
+        return U16550_RING_BAD_CAPACITY;
     }
-    struct uart_maybe_byte_queue found = uart_byte_queue_with_capacity(alloc, tx_capacity);
-    if (!found.is_some) {
-        made.is_error = true;
-        made.error.first = uart;
-        made.error.second = UART_RING_ERROR_OUT_OF_MEMORY;
-        return made;
+    struct u16550_core_byte_queue transmit;
+    if (!uart_byte_queue_with_capacity(alloc, tx_capacity, &transmit)) {
+        *driver = uart;
+        return U16550_RING_OUT_OF_MEMORY;
     }
-    struct uart_maybe_byte_queue found2 = uart_byte_queue_with_capacity(alloc, rx_capacity);
-    if (!found2.is_some) {
-        made.is_error = true;
-        made.error.first = uart;
-        made.error.second = UART_RING_ERROR_OUT_OF_MEMORY;
-        return made;
+    struct u16550_core_byte_queue receive;
+    if (!uart_byte_queue_with_capacity(alloc, rx_capacity, &receive)) {
+        *driver = uart;
+        return U16550_RING_OUT_OF_MEMORY;
     }
-    made.value.uart = uart;
-    made.value.transmit = found.value;
-    made.value.receive = found2.value;
-    made.value.line = 0;
-    made.value.modem = 0;
-    made.value.is_paused = false;
-    made.value.urgent = uart_no_u8();
-    made.value.is_held = false;
-    made.value.has_told_xoff = false;
-    made.value.unlooked = 0;
-    made.value.low_mark = 0;
-    made.value.is_low = false;
-    made.value.rounds = 0;
-    made.value.stuck = uart_no_stuck_error();
-    made.is_error = false;
-    return made;
-}
-
-/* Returns the last XON or XOFF of the bytes at which obey_xoff has not looked yet. */
-static struct u16550_core_maybe_u8 uart_ring_last_told(const struct u16550_core_ring *ring)
-{
-    struct u16550_core_maybe_u8 told = uart_no_u8();
-    size_t number = ring->receive.len;
-    size_t number2 = ring->unlooked;
-    size_t number3 = number < number2 ? number : number2;
-    for (size_t place = number - number3; place < number; place++) {
-        uint8_t byte = uart_byte_queue_byte_at(&ring->receive, place);
-        if ((byte == 17) || (byte == 19))
-            told = uart_some_u8(byte);
-    }
-    return told;
+    ring->uart = uart;
+    ring->transmit = transmit;
+    ring->receive = receive;
+    ring->line = 0;
+    ring->modem = 0;
+    ring->is_paused = false;
+    ring->urgent.is_some = false;
+    ring->is_held = false;
+    ring->has_told_xoff = false;
+    ring->unlooked = 0;
+    ring->low_mark = 0;
+    ring->is_low = false;
+    ring->rounds = 0;
+    ring->stuck.is_some = false;
+    return U16550_OK;
 }
 
 /*
- * Ends the hold of the transmit ring, and starts sending again as resume_transmit does, so
- * that no interrupt is missed which came during the hold.
+ * Returns the last XON or XOFF of the bytes at which u16550_ring_obey_xoff has not looked yet.
+ */
+static bool uart_ring_last_told(const struct u16550_core_ring *ring, uint8_t *byte)
+{
+    struct u16550_core_maybe_u8 told = { false, 0 };
+    size_t len = ring->receive.len;
+    size_t unlooked = ring->unlooked;
+    size_t count = len < unlooked ? len : unlooked;
+    for (size_t place = len - count; place < len; place++) {
+        uint8_t found_byte = uart_byte_queue_byte_at(&ring->receive, place);
+        if ((found_byte == UART_XON) || (found_byte == UART_XOFF)) {
+            told.is_some = true;
+            told.value = found_byte;
+        }
+    }
+    *byte = told.value;
+    return told.is_some;
+}
+
+/*
+ * Ends the hold of the transmit ring, and starts sending again as u16550_ring_resume_transmit
+ * does, so that no interrupt is missed which came during the hold.
  *
  * Does not wait.
  *
@@ -6116,70 +5022,72 @@ static inline void uart_ring_release_transmit(struct u16550_core_ring *ring)
 
 /*
  * Obeys the other end, which holds this end back by XOFF and lets it go on by XON: holds the
- * transmit ring if it told XOFF last, and releases it if it told XON last. Returns that
- * character, or None if none came.
+ * transmit ring if it told XOFF last, and releases it if it told XON last. Returns that character,
+ * or none if none came.
  *
- * It looks at the bytes that came into the receive ring since it looked last, and were not
- * taken meanwhile. So it sees each character once, and of several the last one counts. All
- * bytes stay in the receive ring, in their order and with their errors: a program whose
- * readers are to see neither character leaves both out of what it takes. Bytes of these values
- * are taken for the characters, so this is for text.
+ * It looks at the bytes that came into the receive ring since it looked last, and were not taken
+ * meanwhile. So it sees each character once, and of several the last one counts. All bytes stay in
+ * the receive ring, in their order and with their errors: a program whose readers are to see
+ * neither character leaves both out of what it takes. Bytes of these values are taken for the
+ * characters, so this is for text.
  *
- * The hold is that of hold_transmit. A program that holds the ring for a reason of its own
- * does not call this meanwhile: the characters wait, and the next call obeys the last one.
+ * The hold is that of u16550_ring_hold_transmit. A program that holds the ring for a reason of its
+ * own does not call this meanwhile: the characters wait, and the next call obeys the last one.
  * What is in the chip goes out after an XOFF, and an urgent byte still does.
  *
- * Call it at the end of the interrupt handler, before the program takes what came. While
- * receiving is paused the characters stay in the chip: so choose a receive ring with room, or
- * an XON behind a full one is seen only after a take.
+ * Call it at the end of the interrupt handler, before the program takes what came. While receiving
+ * is paused the characters stay in the chip: so choose a receive ring with room, or an XON behind
+ * a full one is seen only after a u16550_ring_take.
  *
- * Does not wait. At an XON it makes the accesses of a release_transmit. Otherwise it makes
- * none.
+ * Does not wait. At an XON it makes the accesses of a u16550_ring_release_transmit. Otherwise it
+ * makes none.
  *
- * Proved: of the bytes that came into the receive ring since it looked last, and are still
- * there, the last XON or XOFF is obeyed, and is the result. All bytes stay there.
+ * Proved: of the bytes that came into the receive ring since it looked last, and are still there,
+ * the last XON or XOFF is obeyed, and is the result. All bytes stay there.
  */
-static struct u16550_core_maybe_u8 uart_ring_obey_xoff(struct u16550_core_ring *ring)
+static bool uart_ring_obey_xoff(struct u16550_core_ring *ring, uint8_t *byte)
 {
-    struct u16550_core_maybe_u8 told = uart_ring_last_told(ring);
+    uint8_t found_byte;
+    bool told = uart_ring_last_told(ring, &found_byte);
     ring->unlooked = 0;
-    if (!told.is_some)
-        return uart_no_u8();
-    if (told.value == 17)
+    if (!told)
+        return false;
+    if (found_byte == UART_XON)
         uart_ring_release_transmit(ring);
     else
         ring->is_held = true;
+    *byte = found_byte;
     return told;
 }
 
 /*
- * Queues bytes from the front of the slice, as many as the transmit ring has room for, and
- * returns how many.
+ * Queues bytes from the front of the array, as many as the transmit ring has room for, and returns
+ * how many.
  *
- * If it queues any, it sends one burst of the ring if the chip has room, as send_bytes of
+ * If it queues any, it sends one burst of the ring if the chip has room, as u16550_send_bytes of
  * the driver: up to as many bytes as the FIFO holds if it is on, else one. Then it enables
  * THR_EMPTY if bytes are left in the ring, else it disables it. The rest is sent when that
- * interrupt is served. While the ring is held or the chip is stuck, it sends none, and
- * disables THR_EMPTY.
+ * interrupt is served. While the ring is held or the chip is stuck, it sends none, and disables
+ * THR_EMPTY.
  *
- * Does not wait. If it did not queue all bytes, call it again with the rest of the slice after
+ * Does not wait. If it did not queue all bytes, call it again with the rest of the array after
  * interrupts were served.
  *
- * Proved: bytes from the front of the input are added at the end of the transmit ring, as
- * many as it has room for; if there are any, what the chip takes at once is sent.
+ * Proved: bytes from the front of the input are added at the end of the transmit ring, as many as
+ * it has room for; if there are any, what the chip takes at once is sent.
  */
 static inline size_t
 uart_ring_queue(struct u16550_core_ring *ring, const uint8_t *bytes, size_t bytes_len)
 {
-    size_t count = uart_byte_queue_fill_from_slice(&ring->transmit, bytes, bytes_len);
-    if (0 < count)
+    size_t count = uart_byte_queue_append(&ring->transmit, bytes, bytes_len);
+    if (count > 0)
         uart_ring_pump(ring);
     return count;
 }
 
 /*
- * Lets the chip raise its interrupt line again: enables these interrupts, which lower_line
- * found enabled. Those of a chip that is stuck stay disabled.
+ * Lets the chip raise its interrupt line again: enables these interrupts, which
+ * uart_ring_lower_line found enabled. Those of a chip that is stuck stay disabled.
  *
  * Does not wait: makes 2 accesses, or none if the chip is stuck.
  *
@@ -6210,60 +5118,58 @@ static inline uint8_t uart_ring_not_paused(const struct u16550_core_ring *ring, 
 
 /*
  * Starts a chip again that is stuck: forgets why, and the count of rounds, enables these
- * interrupts, and sends bytes that wait, as resume_transmit does.
+ * interrupts, and sends bytes that wait, as u16550_ring_resume_transmit does.
  *
- * DATA_READY is left out while receiving is paused: the take that ends the pause enables
- * it. After an init through inner_mut, which has enabled interrupts itself, call it with
- * none.
+ * DATA_READY is left out while receiving is paused: the u16550_ring_take that ends the pause
+ * enables it. After an u16550_init, which has enabled interrupts itself, call it with none.
  *
  * Does not wait. It may be called on a chip that is not stuck.
  *
- * Proved: these interrupts are enabled, without DATA_READY while receiving is paused; the
- * chip is not stuck any more, and sending resumes.
+ * Proved: these interrupts are enabled, without DATA_READY while receiving is paused; the chip is
+ * not stuck any more, and sending resumes.
  */
 static inline void uart_ring_restart(struct u16550_core_ring *ring, uint8_t interrupts)
 {
     uint8_t enabled = uart_ring_not_paused(ring, interrupts);
     uart_enable_interrupts(&ring->uart, enabled);
     ring->rounds = 0;
-    ring->stuck = uart_no_stuck_error();
+    ring->stuck.is_some = false;
     uart_ring_resume_transmit(ring);
 }
 
 /*
- * Serves the interrupts that ISR identifies, until it identifies none or MAX_INTERRUPTS
+ * Serves the interrupts that ISR identifies, until it identifies none or U16550_MAX_INTERRUPTS
  * were served. Returns how many.
  *
- * This is for a program that polls. A handler calls handle, or handle_ports for several
- * chips on one line, which also leaves the interrupt line so that the next interrupt is
- * noticed. service does not write IER for that, and its count alone does not tell whether an
- * interrupt is left: one that has no name may be.
+ * This is for a program that polls. A handler calls u16550_ring_handle, or u16550_line_handle for
+ * several chips on one line, which also leaves the interrupt line so that the next interrupt is
+ * noticed. u16550_ring_service does not write IER for that, and its count alone does not tell
+ * whether an interrupt is left: one that has no name may be.
  *
  * Does not wait. What it does depends on the interrupt:
  *
- * - Received data, or a reception timeout: bytes are moved to the receive ring, up to as many
- *   as the FIFO holds (fifo_size of the driver). If that is full then, receiving is paused:
- *   DATA_READY is disabled, and bytes stay in the chip until a take makes room.
- * - THR_EMPTY: bytes of the transmit ring are sent, up to as many as the FIFO holds if it is
- *   on, else one. If bytes are left in the ring, THR_EMPTY stays enabled, else it is
- *   disabled.
- * - Line status: the errors are noted for take_line.
- * - Modem status: the changes are noted for take_modem.
+ * - Received data, or a reception timeout: bytes are moved to the receive ring, up to as many as
+ *   the FIFO holds (fifo_size of the driver). If that is full then, receiving is paused:
+ *   DATA_READY is disabled, and bytes stay in the chip until a u16550_ring_take makes room.
+ * - THR_EMPTY: bytes of the transmit ring are sent, up to as many as the FIFO holds if it is on,
+ *   else one. If bytes are left in the ring, THR_EMPTY stays enabled, else it is disabled.
+ * - Line status: the errors are noted for u16550_ring_take_line.
+ * - Modem status: the changes are noted for u16550_ring_take_modem.
  * - End of DMA: nothing.
  *
- * With CTS checking no byte is sent while CTS is clear, and no THR_EMPTY interrupt is raised
- * when CTS returns. After such a change, which take_modem reports, call resume_transmit.
+ * With CTS checking no byte is sent while CTS is clear, and no THR_EMPTY interrupt is raised when
+ * CTS returns. After such a change, which u16550_ring_take_modem reports, call
+ * u16550_ring_resume_transmit.
  *
  * Proved: at most 8 interrupts are served. It tells how many, and not why it ended.
  */
 static inline size_t uart_ring_service(struct u16550_core_ring *ring)
 {
-    return uart_ring_serve_up_to(ring, 8).served;
+    return uart_ring_serve_up_to(ring, UART_MAX_INTERRUPTS).served;
 }
 
 /*
- * Sets the low mark, a number of bytes in the transmit ring. It is 0 at first. Makes no
- * access.
+ * Sets the low mark, a number of bytes in the transmit ring. It is 0 at first. Makes no access.
  *
  * Proved: the low mark is stored, and no access is made.
  */
@@ -6273,32 +5179,33 @@ static inline void uart_ring_set_low_mark(struct u16550_core_ring *ring, size_t 
 }
 
 /*
- * Returns why the chip is stuck, or None if it is not: try_handle has disabled its
- * interrupts since the last restart. Makes no access.
+ * Returns why the chip is stuck, or none if it is not: u16550_ring_try_handle has disabled its
+ * interrupts since the last u16550_ring_restart. Makes no access.
  */
-static inline struct u16550_core_maybe_stuck_error
-uart_ring_stuck(const struct u16550_core_ring *ring)
+static inline bool
+uart_ring_stuck(const struct u16550_core_ring *ring, struct u16550_core_stuck_error *stuck_error)
 {
-    return ring->stuck;
+    *stuck_error = ring->stuck.value;
+    return ring->stuck.is_some;
 }
 
 /*
- * Copies bytes from the front, as many as there are slots, and returns how many. Leaves the
- * other slots unchanged.
+ * Copies bytes from the front, as many as there are slots, and returns how many. Leaves the other
+ * slots unchanged.
  */
 static inline size_t
 uart_byte_queue_copy_front(const struct u16550_core_byte_queue *byte_queue, uint8_t *slots,
     size_t slots_len)
 {
-    struct uart_pair_of_slice pair = uart_byte_queue_as_slices(byte_queue);
-    size_t before = uart_copy(pair.first.data, pair.first.len, slots, slots_len, 0);
-    return before + uart_copy(pair.second.data, pair.second.len, &slots[before],
+    struct uart_slices slices = uart_byte_queue_parts(byte_queue);
+    size_t before = uart_copy(slices.front.data, slices.front.len, slots, slots_len, 0);
+    return before + uart_copy(slices.rest.data, slices.rest.len, &slots[before],
         slots_len - before, 0);
 }
 
 /*
- * Takes bytes from the front, as many as there are slots, and returns how many. Leaves the
- * other slots unchanged.
+ * Takes bytes from the front, as many as there are slots, and returns how many. Leaves the other
+ * slots unchanged.
  */
 static inline size_t
 uart_byte_queue_read_into(struct u16550_core_byte_queue *byte_queue, uint8_t *slots,
@@ -6310,15 +5217,14 @@ uart_byte_queue_read_into(struct u16550_core_byte_queue *byte_queue, uint8_t *sl
 }
 
 /*
- * Takes received bytes from the front of the receive ring, as many as there are slots, and
- * returns how many. Leaves the other slots unchanged.
+ * Takes received bytes from the front of the receive ring, as many as there are slots, and returns
+ * how many. Leaves the other slots unchanged.
  *
- * Does not wait. If it takes at least one byte and receiving is paused, it enables
- * DATA_READY again and ends the pause: one read and one write of IER. Otherwise it makes no
- * access.
+ * Does not wait. If it takes at least one byte and receiving is paused, it enables DATA_READY
+ * again and ends the pause: one read and one write of IER. Otherwise it makes no access.
  *
- * Proved: the bytes are from the front of the receive ring, as many as there are slots and
- * bytes; if there are any, a pause of receiving ends.
+ * Proved: the bytes are from the front of the receive ring, as many as there are slots and bytes;
+ * if there are any, a pause of receiving ends.
  */
 static inline size_t uart_ring_take(struct u16550_core_ring *ring, uint8_t *slots, size_t slots_len)
 {
@@ -6328,27 +5234,25 @@ static inline size_t uart_ring_take(struct u16550_core_ring *ring, uint8_t *slot
 }
 
 /*
- * Reads LSR once. Returns it joined with the errors that were noted when interrupts were
- * served, and with those that the driver has saved. Both are then forgotten.
+ * Reads LSR once. Returns it joined with the errors that were noted when interrupts were served,
+ * and with those that the driver has saved. Both are then forgotten.
  *
- * Proved: lsr, joined with what was noted, after which nothing is noted.
+ * Proved: u16550_lsr, joined with what was noted, after which nothing is noted.
  */
 static inline uint8_t uart_ring_take_line(struct u16550_core_ring *ring)
 {
     uint8_t lsr = uart_lsr(&ring->uart);
-    uint8_t lsr2 = ring->line;
+    uint8_t line = ring->line;
     ring->line = 0;
-    return lsr | lsr2;
+    return lsr | line;
 }
 
 /*
- * Returns whether the transmit ring fell from above the low mark to the mark or below since
- * the last take_low. Makes no access.
+ * Returns whether the transmit ring fell from above the low mark to the mark or below since the
+ * last u16550_ring_take_low. Makes no access.
  *
- * Call it at the end of the interrupt handler, and wake who waits for room if it returns
- * true. It tells once of each fall; of several falls between two calls it tells once.
- * A flag and not a callback: a callback would run inside the call that sends, with the rings
- * borrowed, and could not queue.
+ * Call it at the end of the interrupt handler, and wake who waits for room if it returns true. It
+ * tells once of each fall; of several falls between two calls it tells once.
  *
  * Proved: whether a fall to the low mark was noted, which is then forgotten.
  */
@@ -6360,22 +5264,22 @@ static inline bool uart_ring_take_low(struct u16550_core_ring *ring)
 }
 
 /*
- * Reads MSR once. Returns it joined with the changes that were noted when interrupts were
- * served, and with those that the driver has saved. Both are then forgotten.
+ * Reads MSR once. Returns it joined with the changes that were noted when interrupts were served,
+ * and with those that the driver has saved. Both are then forgotten.
  *
- * Proved: msr, joined with what was noted, after which nothing is noted.
+ * Proved: u16550_msr, joined with what was noted, after which nothing is noted.
  */
 static inline uint8_t uart_ring_take_modem(struct u16550_core_ring *ring)
 {
     uint8_t msr = uart_msr(&ring->uart);
-    uint8_t msr2 = ring->modem;
+    uint8_t modem = ring->modem;
     ring->modem = 0;
-    return msr | msr2;
+    return msr | modem;
 }
 
 /*
- * Returns the number of bytes in the transmit ring: those that are queued and not yet written
- * to the chip. Makes no access.
+ * Returns the number of bytes in the transmit ring: those that are queued and not yet written to
+ * the chip. Makes no access.
  */
 static inline size_t uart_ring_transmit_len(const struct u16550_core_ring *ring)
 {
@@ -6390,29 +5294,28 @@ static inline size_t uart_ring_transmit_room(const struct u16550_core_ring *ring
 }
 
 /* Returns the urgent byte that still waits to be sent. Makes no access. */
-static inline struct u16550_core_maybe_u8 uart_ring_urgent(const struct u16550_core_ring *ring)
+static inline bool uart_ring_urgent(const struct u16550_core_ring *ring, uint8_t *byte)
 {
-    return ring->urgent;
+    *byte = ring->urgent.value;
+    return ring->urgent.is_some;
 }
 #endif
 
 #ifndef U16550_OMIT_BUS
 /*
- * Waits until the transmitter is empty, at most spin_limit polls of LSR, as flush of the
- * driver does. The direction stays as it is.
+ * Waits until the transmitter is empty, at most spin_limit polls of LSR, as u16550_bus_flush of
+ * the driver does. The direction stays as it is.
  *
  * Errors
  *
- * StalledError, with done 0, after spin_limit unsuccessful polls in a row.
+ * U16550_STALLED, with done 0, after spin_limit unsuccessful polls in a row.
  *
- * Proved: the driver does this, and of the other fields only this changes.
- * Proved: a list of the language whose reads are saved.
  * Proved: a wait for an empty transmitter.
  */
-static inline struct uart_maybe_stalled_error
-uart_half_duplex_flush(struct u16550_core_half_duplex *half_duplex)
+static inline int
+uart_half_duplex_flush(struct u16550_core_half_duplex *half_duplex, size_t *stalled_at)
 {
-    return uart_flush(&half_duplex->uart);
+    return uart_flush(&half_duplex->uart, stalled_at);
 }
 
 /* Returns the driver. The direction stays as it is, so finish before. Makes no access. */
@@ -6423,12 +5326,11 @@ uart_half_duplex_into_inner(struct u16550_core_half_duplex half_duplex)
 }
 
 /*
- * Returns whether the transmitter is empty, as is_idle of the driver does: reads LSR once.
+ * Returns whether the transmitter is empty, as u16550_bus_is_idle of the driver does: reads LSR
+ * once.
  *
- * Does not wait. The error bits that this clears are saved for the next lsr.
+ * Does not wait. The error bits that this clears are saved for the next u16550_bus_lsr.
  *
- * Proved: the driver does this, and of the other fields only this changes.
- * Proved: a list of the language whose reads are saved.
  * Proved: one read of LSR, which shows whether the transmitter is empty.
  */
 static inline bool uart_half_duplex_is_idle(struct u16550_core_half_duplex *half_duplex)
@@ -6443,12 +5345,10 @@ static inline bool uart_half_duplex_is_sending(const struct u16550_core_half_dup
 }
 
 /*
- * Reads LSR, and returns it joined with the error bits that all calls before have cleared in
- * the chip, as lsr of the driver does. Afterwards no error bits are saved.
+ * Reads LSR, and returns it joined with the error bits that all calls before have cleared in the
+ * chip, as u16550_bus_lsr of the driver does. Afterwards no error bits are saved.
  *
- * Proved: the driver does this, and of the other fields only this changes.
- * Proved: one read of LSR, which is returned joined with the saved bits, of which none are
- * left.
+ * Proved: one read of LSR, which is returned joined with the saved bits, of which none are left.
  */
 static inline uint8_t uart_half_duplex_lsr(struct u16550_core_half_duplex *half_duplex)
 {
@@ -6465,16 +5365,17 @@ static inline bool uart_direction_level(struct u16550_core_direction direction, 
 /* Returns the bit of the output. */
 static inline uint8_t uart_direction_bit(struct u16550_core_direction direction)
 {
-    return direction.line == U16550_CORE_DIRECTION_LINE_RTS ? U16550_MCR_RTS : U16550_MCR_DTR;
+    return direction.line == U16550_DIRECTION_RTS ? (uint8_t)U16550_MCR_RTS
+        : (uint8_t)U16550_MCR_DTR;
 }
 
 /*
- * Returns the bit by which the chip would drive the output itself: flow control by the chip
- * drives RTS, by how many characters wait.
+ * Returns the bit by which the chip would drive the output itself: flow control by the chip drives
+ * RTS, by how many characters wait.
  */
 static inline uint8_t uart_direction_flow(struct u16550_core_direction direction)
 {
-    return direction.line == U16550_CORE_DIRECTION_LINE_RTS ? U16550_MCR_AUTO_FLOW : 0;
+    return direction.line == U16550_DIRECTION_RTS ? (uint8_t)U16550_MCR_AUTO_FLOW : 0;
 }
 
 /* Returns these outputs with the line as it is to be in this direction. */
@@ -6493,8 +5394,8 @@ uart_direction_turned(struct u16550_core_direction direction, bool sends, uint8_
 /*
  * Switches the transceiver to send, or to receive.
  *
- * Proved: the transceiver is switched: MCR is read, and written with the line as it is to be
- * in this direction, without loopback, and at RTS without automatic flow control.
+ * Proved: the transceiver is switched: MCR is read, and written with the line as it is to be in
+ * this direction, without loopback, and at RTS without automatic flow control.
  */
 static inline void uart_half_duplex_turn(struct u16550_core_half_duplex *half_duplex, bool sends)
 {
@@ -6508,17 +5409,16 @@ static inline void uart_half_duplex_turn(struct u16550_core_half_duplex *half_du
  * Gives the bus back if the transmitter is empty: reads LSR once and, if it shows
  * TRANSMITTER_EMPTY, MCR, and writes that with the line so that the transceiver receives.
  *
- * Does not wait. The error bits that the read of LSR clears are saved for the next lsr. Call
- * it some time after is_idle was true or flush returned: some chips show an empty
- * transmitter while the last stop bit is still on the line.
+ * Does not wait. The error bits that the read of LSR clears are saved for the next u16550_bus_lsr.
+ * Call it some time after u16550_bus_is_idle was true or u16550_bus_flush returned: some chips
+ * show an empty transmitter while the last stop bit is still on the line.
  *
  * Errors
  *
- * BusyError if the transmitter is not empty. Nothing was written, and the direction is as it
- * was.
+ * false if the transmitter is not empty. Nothing was written, and the direction is as it was.
  *
- * Proved: a look at LSR shows that the transmitter is empty, and the transceiver is switched
- * to receive; or it shows that it is not, and nothing else is done.
+ * Proved: a look at LSR shows that the transmitter is empty, and the transceiver is switched to
+ * receive; or it shows that it is not, and nothing else is done.
  */
 static inline bool uart_half_duplex_try_finish(struct u16550_core_half_duplex *half_duplex)
 {
@@ -6531,43 +5431,40 @@ static inline bool uart_half_duplex_try_finish(struct u16550_core_half_duplex *h
 /*
  * Returns a driver at a bus that it may drive, with the transceiver switched to receive.
  *
- * Makes the accesses of try_finish, since an init or whoever had the port before may have
- * left the transceiver so that it sends, and may have sent. Does not wait. Initialise the
- * driver before, with the outputs of Direction_receiving.
+ * Makes the accesses of u16550_bus_try_finish, since an u16550_init or whoever had the port before
+ * may have left the transceiver so that it sends, and may have sent. Does not wait. Initialise the
+ * driver before, with the outputs of u16550_direction_receiving.
  *
  * Errors
  *
- * BusyError if the transmitter is not empty. Nothing was written then, and the driver is
- * returned: flush it, and try again.
+ * U16550_BUS_BUSY if the transmitter is not empty. Nothing was written then, and the driver is
+ * returned: u16550_bus_flush it, and try again.
  *
- * Proved: as try_finish of a driver of whose direction nothing is known, so that it is taken
- * to be to send. If the transmitter is not empty, the driver is returned.
+ * Proved: as u16550_bus_try_finish of a driver of whose direction nothing is known, so that it is
+ * taken to be to send. If the transmitter is not empty, the driver is returned.
  */
-static struct uart_half_duplex_or_pair_of_driver_busy_error
-uart_half_duplex_new(struct u16550_core_driver uart, struct u16550_core_direction direction)
+static int
+uart_half_duplex_new(struct u16550_core_driver uart, struct u16550_core_direction direction,
+    struct u16550_core_half_duplex *half_duplex, struct u16550_core_driver *driver)
 {
-    struct uart_half_duplex_or_pair_of_driver_busy_error made;
-    made.value = uart_make_half_duplex(uart, direction);
-    if (uart_half_duplex_try_finish(&made.value)) {
-        made.is_error = false;
-        return made;
-    }
-    made.is_error = true;
-    made.error.first = made.value.uart;
-    return made;
+    half_duplex->uart = uart;
+    half_duplex->direction = direction;
+    half_duplex->is_sending = true;
+    if (uart_half_duplex_try_finish(half_duplex))
+        return U16550_OK;
+    *driver = half_duplex->uart;
+    return U16550_BUS_BUSY;
 }
 
 /*
- * Receives bytes while some are available and there are free slots, as receive_bytes of the
- * driver does. Returns how many, and leaves the slots beyond them unchanged.
+ * Receives bytes while some are available and there are free slots, as u16550_bus_receive_bytes of
+ * the driver does. Returns how many, and leaves the slots beyond them unchanged.
  *
- * Does not wait, in either direction. If the receiver hears what this end sends, these bytes
- * are among those that are received.
+ * Does not wait, in either direction. If the receiver hears what this end sends, these bytes are
+ * among those that are received.
  *
- * Proved: the driver does this, and of the other fields only this changes.
- * Proved: a list of the language whose reads are saved.
- * Proved: bytes are read from DATA, each after LSR shows it, until the slots are full, or
- * LSR shows none.
+ * Proved: bytes are read from DATA, each after LSR shows it, until the slots are full, or LSR
+ * shows none.
  */
 static inline size_t
 uart_half_duplex_receive_bytes(struct u16550_core_half_duplex *half_duplex, uint8_t *buffer,
@@ -6578,15 +5475,13 @@ uart_half_duplex_receive_bytes(struct u16550_core_half_duplex *half_duplex, uint
 
 /*
  * Receives bytes with their errors while some are available and there are free slots, as
- * receive_with_errors of the driver does.
+ * u16550_bus_receive_with_errors of the driver does.
  *
  * Does not wait. A byte that was received while two ends sent at once has mostly an error, and
  * while no end drives a bus without resistors that hold it there may be errors and breaks.
  *
- * Proved: the driver does this, and of the other fields only this changes.
- * Proved: a list of the language whose reads are saved.
- * Proved: bytes are read from DATA, each after LSR shows it and its errors, until the slots
- * are full, or LSR shows none.
+ * Proved: bytes are read from DATA, each after LSR shows it and its errors, until the slots are
+ * full, or LSR shows none.
  */
 static inline size_t
 uart_half_duplex_receive_with_errors(struct u16550_core_half_duplex *half_duplex,
@@ -6596,65 +5491,64 @@ uart_half_duplex_receive_with_errors(struct u16550_core_half_duplex *half_duplex
 }
 
 /*
- * Sends bytes from the front of the slice if there is room, and returns how many, as
- * send_bytes of the driver does: up to as many as the FIFO holds if it is on, else one.
+ * Sends bytes from the front of the array if there is room, and returns how many, as
+ * u16550_bus_send_bytes of the driver does: up to as many as the FIFO holds if it is on, else one.
  *
- * Does not wait. Call it again with the rest of the slice to send more.
+ * Does not wait. Call it again with the rest of the array to send more.
  *
  * Errors
  *
- * NotSendingError if the direction is not to send. No access was made.
+ * false if the direction is not to send. No access was made.
  *
- * Proved: while the direction is to send, a send_bytes of the driver; else nothing, and the
- * error.
+ * Proved: while the direction is to send, a u16550_bus_send_bytes of the driver; else nothing, and
+ * the error.
  */
-static inline struct uart_maybe_u64
+static inline bool
 uart_half_duplex_send_bytes(struct u16550_core_half_duplex *half_duplex, const uint8_t *buffer,
-    size_t buffer_len)
+    size_t buffer_len, size_t *count)
 {
     if (!half_duplex->is_sending)
-        return uart_no_u64();
-    return uart_some_u64(uart_send_bytes(&half_duplex->uart, buffer, buffer_len));
+        return false;
+    *count = uart_send_bytes(&half_duplex->uart, buffer, buffer_len);
+    return true;
 }
 
 /*
- * Sends all of the bytes, and waits for room before each burst, as send_bytes_exact of the
- * driver does.
+ * Sends all of the bytes, and waits for room before each burst, as u16550_bus_send_bytes_exact of
+ * the driver does.
  *
- * It returns when the last burst is in THR or the FIFO. flush waits until all of it has left
- * the chip.
+ * It returns when the last burst is in THR or the FIFO. u16550_bus_flush waits until all of it has
+ * left the chip.
  *
  * Errors
  *
- * - NotSending if the direction is not to send. No access was made.
- * - Stalled after spin_limit unsuccessful checks in a row. The first done bytes were
+ * - U16550_BUS_NOT_SENDING if the direction is not to send. No access was made.
+ * - U16550_STALLED after spin_limit unsuccessful checks in a row. The first done bytes were
  *   written to the chip.
  *
- * Proved: while the direction is to send, a send_bytes_exact of the driver; else nothing,
- * and the error.
+ * Proved: while the direction is to send, a u16550_bus_send_bytes_exact of the driver; else
+ * nothing, and the error.
  */
-static struct uart_send_error
+static inline int
 uart_half_duplex_send_bytes_exact(struct u16550_core_half_duplex *half_duplex,
-    const uint8_t *bytes, size_t bytes_len)
+    const uint8_t *bytes, size_t bytes_len, size_t *done)
 {
     if (!half_duplex->is_sending)
-        return uart_send_error_not_sending();
-    struct uart_maybe_stalled_error found =
-        uart_send_bytes_exact(&half_duplex->uart, bytes, bytes_len);
-    if (found.is_error)
-        return uart_send_error_stalled(found.error);
-    return uart_send_error_none();
+        return U16550_BUS_NOT_SENDING;
+    if (uart_send_bytes_exact(&half_duplex->uart, bytes, bytes_len, done) != U16550_OK)
+        return U16550_STALLED;
+    return U16550_OK;
 }
 
 /*
- * Switches the transceiver to send: reads MCR, and writes it with the line so, as set_rts or
- * set_dtr of the driver do. Where the line is RTS, flow control by the chip is off from then
- * on. From now on bytes may be sent.
+ * Switches the transceiver to send: reads MCR, and writes it with the line so, as u16550_set_rts
+ * or u16550_set_dtr of the driver do. Where the line is RTS, flow control by the chip is off from
+ * then on. From now on bytes may be sent.
  *
  * Does not wait. Before the first byte wait as long as the transceiver takes.
  *
- * Proved: the transceiver is switched: MCR is read, and written with the line as it is to be
- * in this direction, without loopback, and at RTS without automatic flow control.
+ * Proved: the transceiver is switched: MCR is read, and written with the line as it is to be in
+ * this direction, without loopback, and at RTS without automatic flow control.
  */
 static inline void uart_half_duplex_start_sending(struct u16550_core_half_duplex *half_duplex)
 {
@@ -6666,9 +5560,8 @@ static inline void uart_half_duplex_start_sending(struct u16550_core_half_duplex
  * Returns these outputs with the line as it is to be while the transceiver receives: of RTS
  * without flow control by the chip, which would drive it.
  *
- * init raises RTS and DTR. On a bus with other ends that may send, initialise the chip with
- * these outputs instead, by init_with: else this end may hold the bus until
- * HalfDuplex_new.
+ * u16550_init raises RTS and DTR. On a bus with other ends that may send, initialise the chip with
+ * these outputs instead, by u16550_init_with: else this end may hold the bus until u16550_bus_new.
  */
 static inline uint8_t
 uart_direction_receiving(struct u16550_core_direction direction, uint8_t outputs)
@@ -6677,55 +5570,83 @@ uart_direction_receiving(struct u16550_core_direction direction, uint8_t outputs
 }
 
 /*
- * Returns the baud rate with this number of bits per second: the case with a name if there is
- * one, else Custom.
+ * Returns the baud rate with this number of bits per second: the case with a name if there is one,
+ * else Custom.
  *
  * Proved: the case has a name: it is not Custom.
  */
-static struct u16550_core_baud_rate uart_baud_rate_from_integer(uint32_t value)
+static struct u16550_core_baud_rate uart_baud_rate_from_bps(uint32_t value)
 {
     switch (value) {
-    case UINT32_C(115200):
-        return uart_baud_rate_baud115200();
-    case UINT32_C(57600):
-        return uart_baud_rate_baud57600();
-    case UINT32_C(38400):
-        return uart_baud_rate_baud38400();
-    case 9600:
-        return uart_baud_rate_baud9600();
-    case 4800:
-        return uart_baud_rate_baud4800();
-    case 2400:
-        return uart_baud_rate_baud2400();
-    case 1200:
-        return uart_baud_rate_baud1200();
-    case 600:
-        return uart_baud_rate_baud600();
-    case 300:
-        return uart_baud_rate_baud300();
-    case 150:
-        return uart_baud_rate_baud150();
-    case 110:
-        return uart_baud_rate_baud110();
-    default:
-        return uart_baud_rate_custom(value);
+    case UINT32_C(115200): {
+        struct u16550_core_baud_rate baud_rate = { U16550_CORE_BAUD_RATE_BAUD115200, 0 };
+        return baud_rate;
+    }
+    case UINT32_C(57600): {
+        struct u16550_core_baud_rate baud_rate = { U16550_CORE_BAUD_RATE_BAUD57600, 0 };
+        return baud_rate;
+    }
+    case UINT32_C(38400): {
+        struct u16550_core_baud_rate baud_rate = { U16550_CORE_BAUD_RATE_BAUD38400, 0 };
+        return baud_rate;
+    }
+    case 9600: {
+        struct u16550_core_baud_rate baud_rate = { U16550_CORE_BAUD_RATE_BAUD9600, 0 };
+        return baud_rate;
+    }
+    case 4800: {
+        struct u16550_core_baud_rate baud_rate = { U16550_CORE_BAUD_RATE_BAUD4800, 0 };
+        return baud_rate;
+    }
+    case 2400: {
+        struct u16550_core_baud_rate baud_rate = { U16550_CORE_BAUD_RATE_BAUD2400, 0 };
+        return baud_rate;
+    }
+    case 1200: {
+        struct u16550_core_baud_rate baud_rate = { U16550_CORE_BAUD_RATE_BAUD1200, 0 };
+        return baud_rate;
+    }
+    case 600: {
+        struct u16550_core_baud_rate baud_rate = { U16550_CORE_BAUD_RATE_BAUD600, 0 };
+        return baud_rate;
+    }
+    case 300: {
+        struct u16550_core_baud_rate baud_rate = { U16550_CORE_BAUD_RATE_BAUD300, 0 };
+        return baud_rate;
+    }
+    case 150: {
+        struct u16550_core_baud_rate baud_rate = { U16550_CORE_BAUD_RATE_BAUD150, 0 };
+        return baud_rate;
+    }
+    case 110: {
+        struct u16550_core_baud_rate baud_rate = { U16550_CORE_BAUD_RATE_BAUD110, 0 };
+        return baud_rate;
+    }
+    default: {
+        struct u16550_core_baud_rate baud_rate = { U16550_CORE_BAUD_RATE_CUSTOM, value };
+        return baud_rate;
+    }
     }
 }
 
 #ifndef U16550_OMIT_TIMES
 /*
  * Returns the factor if it is a factor. It is taken apart and put together again, so that the
- * compiler sees that the test of the called function holds, and leaves no path to its panic.
+ * compiler sees that the test of the called function holds.
  */
-static inline struct uart_maybe_maybe_u32
-uart_known(struct u16550_core_maybe_u32 prescaler_division_factor)
+static bool
+uart_valid_prescaler(struct u16550_core_maybe_u32 prescaler_division_factor,
+    struct u16550_core_maybe_u32 *prescaler)
 {
     if (prescaler_division_factor.is_some) {
-        if (prescaler_division_factor.value <= 15)
-            return uart_some_maybe_u32(uart_some_u32(prescaler_division_factor.value));
-        return uart_no_maybe_u32();
+        if (prescaler_division_factor.value > 15)
+            return false;
+        prescaler->is_some = true;
+        prescaler->value = prescaler_division_factor.value;
+        return true;
     }
-    return uart_some_maybe_u32(uart_no_u32());
+    prescaler->is_some = false;
+    return true;
 }
 
 /*
@@ -6733,54 +5654,54 @@ uart_known(struct u16550_core_maybe_u32 prescaler_division_factor)
  *
  * Errors
  *
- * Those of checked_divisor, but for the ones that depend on the divisor.
+ * Those of uart_checked_divisor, but for the ones that depend on the divisor.
  *
- * Proved: why the arithmetic does not accept a frequency and a baud rate: no divisor gives a
- * baud rate of zero, or has a factor above 15; otherwise a frequency of zero has the divisor
- * 0, which does not fit into the divisor latch.
+ * Proved: why the arithmetic does not accept a frequency and a baud rate: no divisor gives a baud
+ * rate of zero, or has a factor above 15; otherwise a frequency of zero has the divisor 0, which
+ * does not fit into the divisor latch.
  */
-static struct uart_maybe_u32_or_invalid_divisor_error
-uart_accepted(uint32_t frequency, uint32_t baud_rate,
-    struct u16550_core_maybe_u32 prescaler_division_factor)
+static int
+uart_computable_prescaler(uint32_t frequency, uint32_t baud_rate,
+    struct u16550_core_maybe_u32 prescaler_division_factor, struct u16550_core_maybe_u32 *prescaler)
 {
-    struct uart_maybe_maybe_u32 found = uart_known(prescaler_division_factor);
-    if (found.is_some) {
-        if (baud_rate != 0 && frequency != 0)
-            return uart_good_maybe_u32_or_invalid_divisor_error(found.value);
-        if (baud_rate != 0) {
-            return uart_bad_maybe_u32_or_invalid_divisor_error(
-                uart_invalid_divisor_error_out_of_range(0));
+    struct u16550_core_maybe_u32 found_prescaler;
+    if (uart_valid_prescaler(prescaler_division_factor, &found_prescaler)) {
+        if (baud_rate != 0 && frequency != 0) {
+            *prescaler = found_prescaler;
+            return U16550_OK;
         }
+        if (baud_rate != 0)
+            return U16550_FRAME_DIVISOR_OUT_OF_RANGE;
     }
-    return uart_bad_maybe_u32_or_invalid_divisor_error(
-        uart_invalid_divisor_error_non_integer(uart_make_non_integer_divisor_error(frequency,
-        baud_rate, prescaler_division_factor)));
+    return U16550_FRAME_NON_INTEGER_DIVISOR;
 }
 
 /*
- * Does the same as calc_divisor, but also returns an error if that would panic: if the frequency
- * or the baud rate is 0, or if the prescaler division factor is above 15.
+ * Does the same as uart_calc_divisor, but also returns an error if the frequency or the baud rate
+ * is 0, or if the prescaler division factor is above 15.
  *
  * Errors
  *
- * Those of calc_divisor. A baud rate of 0 or a larger factor gives NonInteger, and otherwise a
- * frequency of 0 gives OutOfRange with the divisor 0.
+ * Those of uart_calc_divisor. A baud rate of 0 or a larger factor gives
+ * U16550_FRAME_NON_INTEGER_DIVISOR, and otherwise a frequency of 0 gives
+ * U16550_FRAME_DIVISOR_OUT_OF_RANGE with the divisor 0.
  *
  * Proved: the answer of the arithmetic if it accepts these, and otherwise why it does not.
  */
-static inline struct uart_u16_or_invalid_divisor_error
+static inline int
 uart_checked_divisor(uint32_t frequency, uint32_t baud_rate,
-    struct u16550_core_maybe_u32 prescaler_division_factor)
+    struct u16550_core_maybe_u32 prescaler_division_factor, uint16_t *divisor)
 {
-    struct uart_maybe_u32_or_invalid_divisor_error outcome =
-        uart_accepted(frequency, baud_rate, prescaler_division_factor);
-    if (outcome.error.kind != UART_INVALID_DIVISOR_ERROR_NONE)
-        return uart_bad_u16_or_invalid_divisor_error(outcome.error);
-    return uart_calc_divisor(frequency, baud_rate, outcome.value);
+    struct u16550_core_maybe_u32 prescaler;
+    int status =
+        uart_computable_prescaler(frequency, baud_rate, prescaler_division_factor, &prescaler);
+    if (status != U16550_OK)
+        return status;
+    return uart_calc_divisor(frequency, baud_rate, prescaler, divisor);
 }
 
 /* Returns the number of data bits. */
-static uint32_t uart_word_length_to_integer(uint8_t word_length)
+static uint32_t uart_word_length_bits(uint8_t word_length)
 {
     switch (word_length) {
     case U16550_CORE_WORD_LENGTH_FIVE_BITS:
@@ -6796,37 +5717,41 @@ static uint32_t uart_word_length_to_integer(uint8_t word_length)
 }
 
 /* Returns how many halves of bits a character has, with its start bit and its stop bits. */
-static inline uint64_t uart_halves(const struct u16550_core_config *config)
+static uint64_t uart_half_bits_of_character(const struct u16550_core_config *config)
 {
-    uint64_t number = config->parity == U16550_CORE_PARITY_DISABLED ? 0 : 2;
-    uint64_t number2 = !config->extra_stop_bits ? 2
-        : (config->data_bits == U16550_CORE_WORD_LENGTH_FIVE_BITS ? 3 : 4);
-    return 2 + 2 * (uint64_t)uart_word_length_to_integer(config->data_bits) + number + number2;
+    uint64_t parity = config->parity == U16550_PARITY_NONE ? 0 : 2;
+    uint64_t stop;
+    if (!config->extra_stop_bits)
+        stop = 2;
+    else
+        stop = config->data_bits == U16550_CORE_WORD_LENGTH_FIVE_BITS ? 3 : 4;
+    return 2 + 2 * (uint64_t)uart_word_length_bits(config->data_bits) + parity + stop;
 }
 
 /*
- * Returns how many clocks of the chip's input a character takes on the line: its start bit,
- * data bits, parity bit and stop bits, with one and a half stop bits exact.
+ * Returns how many clocks of the chip's input a character takes on the line: its start bit, data
+ * bits, parity bit and stop bits, with one and a half stop bits exact.
  *
  * Errors
  *
- * Those of checked_divisor, if there is no divisor for the baud rate.
+ * Those of uart_checked_divisor, if there is no divisor for the baud rate.
  *
- * Proved: the time of a character, if there is a divisor for the baud rate; otherwise why
- * there is none.
+ * Proved: the time of a character, if there is a divisor for the baud rate; otherwise why there is
+ * none.
  */
-static struct uart_u64_or_invalid_divisor_error
-uart_config_character_clocks(const struct u16550_core_config *config)
+static int uart_config_character_clocks(const struct u16550_core_config *config, uint64_t *clocks)
 {
     struct u16550_core_maybe_u32 factor = config->prescaler_division_factor;
-    uint32_t rate = uart_baud_rate_to_integer(config->baud_rate);
-    struct uart_u16_or_invalid_divisor_error outcome =
-        uart_checked_divisor(config->frequency, rate, factor);
-    if (outcome.error.kind != UART_INVALID_DIVISOR_ERROR_NONE)
-        return uart_bad_u64_or_invalid_divisor_error(outcome.error);
-    return uart_good_u64_or_invalid_divisor_error(
-        uart_product_64(uart_product_64(8 * ((uint64_t)(factor.is_some ? factor.value : 0) + 1),
-        (uint64_t)outcome.value), uart_halves(config)));
+    uint32_t rate = uart_baud_rate_bps(config->baud_rate);
+    uint16_t divisor;
+    int status = uart_checked_divisor(config->frequency, rate, factor, &divisor);
+    if (status != U16550_OK)
+        return status;
+    uint32_t prescaler = factor.is_some ? factor.value : 0;
+    *clocks =
+        uart_product_64(uart_product_64(8 * ((uint64_t)prescaler + 1), divisor),
+        uart_half_bits_of_character(config));
+    return U16550_OK;
 }
 
 /*
@@ -6837,64 +5762,66 @@ uart_config_character_clocks(const struct u16550_core_config *config)
  *
  * Errors
  *
- * Those of checked_divisor, if there is no divisor for the baud rate.
+ * Those of uart_checked_divisor, if there is no divisor for the baud rate.
  *
- * Proved: the most characters that end within so many clocks: one ends at once, and each
- * other a character's time later.
+ * Proved: the most characters that end within so many clocks: one ends at once, and each other a
+ * character's time later.
  */
-static inline struct uart_u64_or_invalid_divisor_error
-uart_config_characters_in(const struct u16550_core_config *config, uint64_t clocks)
+static inline int
+uart_config_characters_in(const struct u16550_core_config *config, uint64_t clocks,
+    uint64_t *characters)
 {
-    struct uart_u64_or_invalid_divisor_error outcome = uart_config_character_clocks(config);
-    if (outcome.error.kind != UART_INVALID_DIVISOR_ERROR_NONE)
-        return uart_bad_u64_or_invalid_divisor_error(outcome.error);
-    return uart_good_u64_or_invalid_divisor_error(uart_quotient_64(clocks, outcome.value) + 1);
+    uint64_t character;
+    int status = uart_config_character_clocks(config, &character);
+    if (status != U16550_OK)
+        return status;
+    *characters = uart_quotient_64(clocks, character) + 1;
+    return U16550_OK;
 }
 
 /*
- * Returns (value * times + more) / per, if there is one and it fits. No step of it overflows:
- * what value has above a multiple of per is below it.
+ * Returns (value * times + more) / per, if there is one and it fits. No step of it overflows: what
+ * value has above a multiple of per is below it.
  */
-static struct uart_maybe_u64
-uart_scaled(uint64_t value, uint32_t times, uint32_t per, uint32_t more)
+static bool
+uart_multiply_divide(uint64_t value, uint32_t times, uint32_t per, uint32_t more, uint64_t *result)
 {
     if (per == 0)
-        return uart_no_u64();
-    uint64_t quotient = uart_quotient_64(value, (uint64_t)per);
-    uint64_t number = (uint64_t)times;
-    struct uart_maybe_u64 found;
-    if (number == 0) {
-        found = uart_some_u64(0);
+        return false;
+    uint64_t quotient = uart_quotient_64(value, per);
+    struct uart_maybe_u64 whole;
+    if (times == 0) {
+        whole.is_some = true;
+        whole.value = 0;
+    } else if (quotient <= uart_quotient_64((uint64_t)-1, times)) {
+        whole.is_some = true;
+        whole.value = uart_product_64(quotient, times);
     } else {
-        struct uart_maybe_u64 found2;
-        if (quotient <= uart_quotient_64((uint64_t)-1, number))
-            found2 = uart_some_u64(uart_product_64(quotient, number));
-        else
-            found2 = uart_no_u64();
-        found = found2;
+        whole.is_some = false;
+        whole.value = 0;
     }
-    struct uart_maybe_u64 found3 = found;
-    if (!found3.is_some)
-        return uart_no_u64();
-    uint64_t quotient2 =
-        uart_quotient_64(uart_product_64(uart_rest_64(value, (uint64_t)per), (uint64_t)times) +
-        (uint64_t)more, (uint64_t)per);
-    if ((uint64_t)-1 - quotient2 < found3.value)
-        return uart_no_u64();
-    return uart_some_u64(found3.value + quotient2);
+    if (!whole.is_some)
+        return false;
+    uint64_t part =
+        uart_quotient_64(uart_product_64(uart_rest_64(value, per), times) + (uint64_t)more, per);
+    if ((uint64_t)-1 - part < whole.value)
+        return false;
+    *result = whole.value + part;
+    return true;
 }
 
 /*
- * Returns the fewest clocks that cover so many nanoseconds: rounded up, as the most that an
- * access takes, or a handler is late. None if they do not fit.
+ * Returns the fewest clocks that cover so many nanoseconds: rounded up, as the most that an access
+ * takes, or a handler is late. None if they do not fit.
  *
- * Proved: the same rounded up.
+ * Proved: value * times / per, rounded up, if that fits into 64 bits.
  */
-static inline struct uart_maybe_u64
-uart_config_clocks_covering(const struct u16550_core_config *config, uint64_t nanoseconds)
+static inline bool
+uart_config_clocks_covering(const struct u16550_core_config *config, uint64_t nanoseconds,
+    uint64_t *clocks)
 {
-    return uart_scaled(nanoseconds, config->frequency, UINT32_C(1000000000),
-        UINT32_C(1000000000) - 1);
+    return uart_multiply_divide(nanoseconds, config->frequency, UINT32_C(1000000000),
+        UINT32_C(1000000000) - 1, clocks);
 }
 
 /*
@@ -6903,78 +5830,80 @@ uart_config_clocks_covering(const struct u16550_core_config *config, uint64_t na
  *
  * Proved: the whole part of value * times / per, if there is one that fits into 64 bits.
  */
-static inline struct uart_maybe_u64
-uart_config_clocks_within(const struct u16550_core_config *config, uint64_t nanoseconds)
+static inline bool
+uart_config_clocks_within(const struct u16550_core_config *config, uint64_t nanoseconds,
+    uint64_t *clocks)
 {
-    return uart_scaled(nanoseconds, config->frequency, UINT32_C(1000000000), 0);
+    return uart_multiply_divide(nanoseconds, config->frequency, UINT32_C(1000000000), 0, clocks);
 }
 
 /*
- * Returns the clocks after which a full transmitter has sent all that it holds: the FIFO, of
- * this size, and the shift register.
+ * Returns the clocks after which a full transmitter has sent all that it holds: the FIFO, of this
+ * size, and the shift register.
  *
- * So long at most does a flush take, if the other end does not hold the chip off.
+ * So long at most does a u16550_flush take, if the other end does not hold the chip off.
  *
  * Errors
  *
- * Those of checked_divisor, if there is no divisor for the baud rate.
+ * Those of uart_checked_divisor, if there is no divisor for the baud rate.
  *
  * Proved: the time of so many characters.
  */
-static inline struct uart_u64_or_invalid_divisor_error
-uart_config_drain_clocks(const struct u16550_core_config *config, uint8_t size)
+static int
+uart_config_drain_clocks(const struct u16550_core_config *config, uint8_t size, uint64_t *clocks)
 {
-    uint64_t number = (uint64_t)uart_fifo_size_characters(size) + 1;
-    struct uart_u64_or_invalid_divisor_error outcome = uart_config_character_clocks(config);
-    if (outcome.error.kind != UART_INVALID_DIVISOR_ERROR_NONE)
-        return uart_bad_u64_or_invalid_divisor_error(outcome.error);
-    return uart_good_u64_or_invalid_divisor_error(uart_product_64(number, outcome.value));
+    uint64_t characters = (uint64_t)uart_fifo_depth(size) + 1;
+    uint64_t found_clocks;
+    int status = uart_config_character_clocks(config, &found_clocks);
+    if (status != U16550_OK)
+        return status;
+    *clocks = uart_product_64(characters, found_clocks);
+    return U16550_OK;
 }
 
 /*
- * Returns how many characters wait in a FIFO of this size when the level is reached: the
- * number of its name in one of 16, and other numbers in larger ones.
+ * Returns how many characters wait in a FIFO of this size when the level is reached: the number of
+ * its name in one of 16, and other numbers in larger ones.
  *
- * They are those of a 16550, a 16650, a 16750 and a 16950, and those of DesignWare for 256:
- * one, a quarter, a half, and two less than full.
+ * They are those of a 16550, a 16650, a 16750 and a 16950, and those of DesignWare for 256: one, a
+ * quarter, a half, and two less than full.
  */
-static size_t uart_fifo_trigger_level_characters(uint8_t fifo_trigger_level, uint8_t size)
+static size_t uart_rx_trigger_bytes(uint8_t fifo_trigger_level, uint8_t size)
 {
-    struct uart_u64_4 bytes;
+    struct uart_u64_4 levels;
     switch (size) {
     case U16550_CORE_FIFO_SIZE_SIXTEEN:
-        bytes.bytes[0] = 1;
-        bytes.bytes[1] = 4;
-        bytes.bytes[2] = 8;
-        bytes.bytes[3] = 14;
+        levels.bytes[0] = 1;
+        levels.bytes[1] = 4;
+        levels.bytes[2] = 8;
+        levels.bytes[3] = 14;
         break;
     case U16550_CORE_FIFO_SIZE_THIRTY_TWO:
-        bytes.bytes[0] = 8;
-        bytes.bytes[1] = 16;
-        bytes.bytes[2] = 24;
-        bytes.bytes[3] = 28;
+        levels.bytes[0] = 8;
+        levels.bytes[1] = 16;
+        levels.bytes[2] = 24;
+        levels.bytes[3] = 28;
         break;
     case U16550_CORE_FIFO_SIZE_SIXTY_FOUR:
-        bytes.bytes[0] = 1;
-        bytes.bytes[1] = 16;
-        bytes.bytes[2] = 32;
-        bytes.bytes[3] = 56;
+        levels.bytes[0] = 1;
+        levels.bytes[1] = 16;
+        levels.bytes[2] = 32;
+        levels.bytes[3] = 56;
         break;
     case U16550_CORE_FIFO_SIZE_ONE_HUNDRED_TWENTY_EIGHT:
-        bytes.bytes[0] = 16;
-        bytes.bytes[1] = 32;
-        bytes.bytes[2] = 112;
-        bytes.bytes[3] = 120;
+        levels.bytes[0] = 16;
+        levels.bytes[1] = 32;
+        levels.bytes[2] = 112;
+        levels.bytes[3] = 120;
         break;
     case U16550_CORE_FIFO_SIZE_TWO_HUNDRED_FIFTY_SIX:
     default:
-        bytes.bytes[0] = 1;
-        bytes.bytes[1] = 64;
-        bytes.bytes[2] = 128;
-        bytes.bytes[3] = 254;
+        levels.bytes[0] = 1;
+        levels.bytes[1] = 64;
+        levels.bytes[2] = 128;
+        levels.bytes[3] = 254;
         break;
     }
-    struct uart_u64_4 levels = bytes;
     switch (fifo_trigger_level) {
     case U16550_CORE_FIFO_TRIGGER_LEVEL_ONE:
         return (size_t)levels.bytes[0];
@@ -6991,89 +5920,94 @@ static size_t uart_fifo_trigger_level_characters(uint8_t fifo_trigger_level, uin
 /*
  * Returns how many characters more the receiver takes, once as many wait as the trigger level.
  */
-static inline uint32_t uart_spare(const struct u16550_core_config *config, uint8_t size)
+static inline uint32_t uart_rx_spare(const struct u16550_core_config *config, uint8_t size)
 {
     if (config->fifo_trigger_level.is_some) {
         uint8_t level = config->fifo_trigger_level.value;
-        size_t fifo_size_characters = uart_fifo_size_characters(size);
-        return (uint32_t)(fifo_size_characters - uart_fifo_trigger_level_characters(level, size));
+        size_t depth = uart_fifo_depth(size);
+        return (uint32_t)(depth - uart_rx_trigger_bytes(level, size));
     }
     return 0;
 }
 
 /*
  * Returns the most clocks that may pass from the receiver's interrupt to the handler's read of
- * ISR, so that no character is dropped without flow control; or None if nothing is left.
+ * ISR, so that no character is dropped without flow control; or none if nothing is left.
  *
- * An access takes at most access_clocks. At a line that several ports share those before
- * this one are served first, for at most before_clocks: the result is then what is left for
- * the first read of ISR of the whole handler. At a line of its own this is 0. If a line error
- * is told first, the first byte is read four accesses after ISR. Nothing is left either if two
- * accesses, as each byte needs, take longer than a character.
+ * An access takes at most access_clocks. At a line that several ports share those before this one
+ * are served first, for at most before_clocks: the result is then what is left for the first read
+ * of ISR of the whole handler. At a line of its own this is 0. If a line error is told first, the
+ * first byte is read four accesses after ISR. Nothing is left either if two accesses, as each byte
+ * needs, take longer than a character.
  *
  * Errors
  *
- * Those of checked_divisor, if there is no divisor for the baud rate.
+ * Those of uart_checked_divisor, if there is no divisor for the baud rate.
  *
- * Proved: how late it may begin where an access takes e clocks, and the others at its line
- * are served first: an access reads ISR, and the first byte is read four accesses later if a
- * line error is told before it. It is in time if something is left, and no character comes
- * while another one is read, by two accesses.
+ * Proved: how late it may begin where an access takes e clocks, and the others at its line are
+ * served first: an access reads ISR, and the first byte is read four accesses later if a line
+ * error is told before it. It is in time if something is left, and no character comes while
+ * another one is read, by two accesses.
  */
-static struct uart_maybe_u64_or_invalid_divisor_error
+static int
 uart_config_handler_budget(const struct u16550_core_config *config, uint8_t size,
-    uint64_t access_clocks, uint64_t before_clocks)
+    uint64_t access_clocks, uint64_t before_clocks, struct uart_maybe_u64 *clocks)
 {
-    struct uart_u64_or_invalid_divisor_error outcome = uart_config_character_clocks(config);
-    if (outcome.error.kind != UART_INVALID_DIVISOR_ERROR_NONE)
-        return uart_bad_maybe_u64_or_invalid_divisor_error(outcome.error);
-    if (outcome.value / 2 < access_clocks)
-        return uart_good_maybe_u64_or_invalid_divisor_error(uart_no_u64());
-    uint64_t most = uart_product_64((uint64_t)uart_spare(config, size) + 1, outcome.value) - 1;
-    uint64_t number = 4 * access_clocks;
-    uint64_t number2 = before_clocks <= (uint64_t)-1 - number ? before_clocks + number
+    uint64_t found_clocks;
+    int status = uart_config_character_clocks(config, &found_clocks);
+    if (status != U16550_OK)
+        return status;
+    if (found_clocks / 2 < access_clocks) {
+        clocks->is_some = false;
+        return U16550_OK;
+    }
+    uint64_t most = uart_product_64((uint64_t)uart_rx_spare(config, size) + 1, found_clocks) - 1;
+    uint64_t first_byte = 4 * access_clocks;
+    uint64_t served = before_clocks <= (uint64_t)-1 - first_byte ? before_clocks + first_byte
         : (uint64_t)-1;
-    struct uart_maybe_u64 found;
-    if (most < number2)
-        found = uart_no_u64();
-    else
-        found = uart_some_u64(most - number2);
-    return uart_good_maybe_u64_or_invalid_divisor_error(found);
+    if (most < served) {
+        clocks->is_some = false;
+    } else {
+        clocks->is_some = true;
+        clocks->value = most - served;
+    }
+    return U16550_OK;
 }
 
 /*
- * Returns the fewest whole nanoseconds that cover so many clocks: rounded up, as a time to
- * wait. None if they do not fit, or the frequency is 0.
+ * Returns the fewest whole nanoseconds that cover so many clocks: rounded up, as a time to wait.
+ * None if they do not fit, or the frequency is 0.
  *
- * Proved: the same rounded up.
+ * Proved: value * times / per, rounded up, if that fits into 64 bits.
  */
-static inline struct uart_maybe_u64
-uart_config_nanoseconds_covering(const struct u16550_core_config *config, uint64_t clocks)
+static inline bool
+uart_config_nanoseconds_covering(const struct u16550_core_config *config, uint64_t clocks,
+    uint64_t *nanoseconds)
 {
-    uint32_t number = config->frequency;
-    return uart_scaled(clocks, UINT32_C(1000000000), config->frequency,
-        1 <= number ? number - 1 : 0);
+    uint32_t frequency = config->frequency;
+    return uart_multiply_divide(clocks, UINT32_C(1000000000), config->frequency,
+        frequency >= 1 ? frequency - 1 : 0, nanoseconds);
 }
 
 /*
- * Returns the whole nanoseconds within so many clocks: rounded down, as a time that may be
- * used up. None if they do not fit, or the frequency is 0.
+ * Returns the whole nanoseconds within so many clocks: rounded down, as a time that may be used
+ * up. None if they do not fit, or the frequency is 0.
  *
  * Proved: the whole part of value * times / per, if there is one that fits into 64 bits.
  */
-static inline struct uart_maybe_u64
-uart_config_nanoseconds_within(const struct u16550_core_config *config, uint64_t clocks)
+static inline bool
+uart_config_nanoseconds_within(const struct u16550_core_config *config, uint64_t clocks,
+    uint64_t *nanoseconds)
 {
-    return uart_scaled(clocks, UINT32_C(1000000000), config->frequency, 0);
+    return uart_multiply_divide(clocks, UINT32_C(1000000000), config->frequency, 0, nanoseconds);
 }
 
 /* Returns how many clock ticks a bit has at divisor 1. */
 static inline uint64_t
 uart_ticks_of(uint32_t baud_rate, struct u16550_core_maybe_u32 prescaler_division_factor)
 {
-    return uart_product_64(
-        16 * ((uint64_t)(prescaler_division_factor.is_some ? prescaler_division_factor.value
-        : 0) + 1), (uint64_t)baud_rate);
+    uint32_t prescaler = prescaler_division_factor.is_some ? prescaler_division_factor.value : 0;
+    return uart_product_64(16 * ((uint64_t)prescaler + 1), baud_rate);
 }
 
 /*
@@ -7081,8 +6015,8 @@ uart_ticks_of(uint32_t baud_rate, struct u16550_core_maybe_u32 prescaler_divisio
  * clock has this frequency, and if the factor 1 is exact at this number of ticks. If two are
  * equally near, it is the larger one.
  *
- * A factor gives the rate frequency / factor, and the wanted one is ticks. Rates are not spaced
- * as their factors are: between two neighbours the rates are equally far off where the frequency
+ * A factor gives the rate frequency / factor, and the wanted one is ticks. Rates are not spaced as
+ * their factors are: between two neighbours the rates are equally far off where the frequency
  * divided by the ticks is the harmonic mean of the two, which is below the middle.
  */
 static inline uint64_t uart_nearest_factor(uint64_t frequency, uint64_t ticks)
@@ -7094,111 +6028,104 @@ static inline uint64_t uart_nearest_factor(uint64_t frequency, uint64_t ticks)
 }
 
 /*
- * Returns the configuration for the divisor whose rate is nearest to the configured one, if it
- * is near enough. Use it for a clock that gives no exact divisor, since init and set_frame
- * round nothing.
+ * Returns the configuration for the divisor whose rate is nearest to the configured one, if it is
+ * near enough. Use it for a clock that gives no exact divisor, since u16550_init and
+ * u16550_set_frame round nothing.
  *
- * In the result only frequency differs: it is the one, in hertz, at which the nearest
- * divisor gives the configured baud rate exactly. So init accepts the result, and writes
- * this divisor. If two divisors are equally near, it is the larger one.
+ * In the result only frequency differs: it is the one, in hertz, at which the nearest divisor
+ * gives the configured baud rate exactly. So u16550_init accepts the result, and writes this
+ * divisor. If two divisors are equally near, it is the larger one.
  *
- * The rate on the line differs from the configured one by at most per_mille thousandths of
- * the configured one: 20 are two per cent, 0 takes an exact divisor alone. A receiver looks at
- * the last of ten bits nine and a half bit times after the start of the character. So the two
- * sides together may be some 45 thousandths apart, and 20 for each side is a usual choice.
+ * The rate on the line differs from the configured one by at most per_mille thousandths of the
+ * configured one: 20 are two per cent, 0 takes an exact divisor alone. A receiver looks at the
+ * last of ten bits nine and a half bit times after the start of the character. So the two sides
+ * together may be some 45 thousandths apart, and 20 for each side is a usual choice.
  *
  * Errors
  *
- * - OutOfRange, with the nearest divisor, if it is above 65,535, or its frequency needs more
- *   than 32 bits.
- * - TooFar, with the nearest divisor, if it is in range, and the rate differs by more. Then
- *   the rate of each divisor does.
+ * - U16550_NEAREST_OUT_OF_RANGE, with the nearest divisor, if it is above 65,535, or its frequency
+ *   needs more than 32 bits.
+ * - U16550_NEAREST_TOO_FAR, with the nearest divisor, if it is in range, and the rate differs by
+ *   more. Then the rate of each divisor does.
  *
- * Proved: the configuration with the frequency at which the nearest divisor is exact, so
- * that it is the one that the exact arithmetic computes, and the rate is near enough; or the
- * nearest divisor, which does not fit, or fits and is too far off, as each other divisor
- * then is.
+ * Proved: the configuration with the frequency at which the nearest divisor is exact, so that it
+ * is the one that the exact arithmetic computes, and the rate is near enough; or the nearest
+ * divisor, which does not fit, or fits and is too far off, as each other divisor then is.
  */
-static struct uart_config_or_nearest_divisor_error
-uart_config_nearest(struct u16550_core_config config, uint32_t per_mille)
+static int
+uart_config_nearest(struct u16550_core_config config, uint32_t per_mille,
+    struct u16550_core_config *nearest)
 {
-    uint64_t frequency = (uint64_t)config.frequency;
+    uint64_t frequency = config.frequency;
     uint64_t ticks =
-        uart_ticks_of(uart_baud_rate_to_integer(config.baud_rate),
-        config.prescaler_division_factor);
+        uart_ticks_of(uart_baud_rate_bps(config.baud_rate), config.prescaler_division_factor);
     uint64_t divisor = uart_nearest_factor(frequency, ticks);
     uint64_t exact = uart_product_64(ticks, divisor);
-    if ((UINT32_C(65535) < divisor) || (UINT32_C(4294967295) < exact)) {
-        return uart_bad_config_or_nearest_divisor_error(
-            uart_nearest_divisor_error_out_of_range(divisor));
-    }
-    if (uart_product_64((uint64_t)per_mille, exact) < uart_product_64(1000,
+    if ((divisor > UINT32_C(65535)) || (exact > UINT32_C(4294967295)))
+        return U16550_NEAREST_OUT_OF_RANGE;
+    if (uart_product_64(per_mille, exact) < uart_product_64(1000,
         exact < frequency ? frequency - exact : exact - frequency)) {
-        return uart_bad_config_or_nearest_divisor_error(
-            uart_nearest_divisor_error_too_far(divisor));
+        return U16550_NEAREST_TOO_FAR;
     }
-    struct u16550_core_config config2;
-    config2.interrupts = config.interrupts;
-    config2.frequency = (uint32_t)exact;
-    config2.prescaler_division_factor = config.prescaler_division_factor;
-    config2.fifo_trigger_level = config.fifo_trigger_level;
-    config2.baud_rate = config.baud_rate;
-    config2.data_bits = config.data_bits;
-    config2.extra_stop_bits = config.extra_stop_bits;
-    config2.parity = config.parity;
-    config2.check_cts_before_sending = config.check_cts_before_sending;
-    return uart_good_config_or_nearest_divisor_error(config2);
+    config.frequency = (uint32_t)exact;
+    *nearest = config;
+    return U16550_OK;
 }
 
 /*
- * Returns the spin limit with which no wait for a working transmitter gives up, of a FIFO of
- * this size: if each look takes at least so many clocks, and the other end does not hold the
- * chip off. None if a look takes none.
+ * Returns the spin limit with which no wait for a working transmitter gives up, of a FIFO of this
+ * size: if each look takes at least so many clocks, and the other end does not hold the chip off.
+ * None if a look takes none.
  *
- * A wait gives up after at most as many looks in a row as the limit, so after the limit times
- * the clocks of a look.
+ * A wait gives up after at most as many looks in a row as the limit, so after the limit times the
+ * clocks of a look.
  *
  * Errors
  *
- * Those of checked_divisor, if there is no divisor for the baud rate.
+ * Those of uart_checked_divisor, if there is no divisor for the baud rate.
  *
- * Proved: The limit with which no wait for a full transmitter gives up, of a FIFO and the
- * shift register, if each look takes at least e clocks. A character is so many looks, of
- * which the last may begin before it ends; and one look more finds that the next character
- * has begun.
+ * Proved: The limit with which no wait for a full transmitter gives up, of a FIFO and the shift
+ * register, if each look takes at least e clocks. A character is so many looks, of which the last
+ * may begin before it ends; and one look more finds that the next character has begun.
  */
-static struct uart_maybe_u64_or_invalid_divisor_error
+static int
 uart_config_spin_limit_for(const struct u16550_core_config *config, uint8_t size,
-    uint64_t access_clocks)
+    uint64_t access_clocks, struct uart_maybe_u64 *limit)
 {
-    struct uart_u64_or_invalid_divisor_error outcome = uart_config_character_clocks(config);
-    if (outcome.error.kind != UART_INVALID_DIVISOR_ERROR_NONE)
-        return uart_bad_maybe_u64_or_invalid_divisor_error(outcome.error);
-    if (access_clocks == 0)
-        return uart_good_maybe_u64_or_invalid_divisor_error(uart_no_u64());
-    return uart_good_maybe_u64_or_invalid_divisor_error(
-        uart_some_u64(uart_product_64((uint64_t)uart_fifo_size_characters(size) + 1,
-        uart_quotient_64(outcome.value - 1, access_clocks) + 1 + 1)));
+    uint64_t clocks;
+    int status = uart_config_character_clocks(config, &clocks);
+    if (status != U16550_OK)
+        return status;
+    if (access_clocks == 0) {
+        limit->is_some = false;
+        return U16550_OK;
+    }
+    limit->is_some = true;
+    limit->value =
+        uart_product_64((uint64_t)uart_fifo_depth(size) + 1,
+        uart_quotient_64(clocks - 1, access_clocks) + 1 + 1);
+    return U16550_OK;
 }
 
 /*
- * Returns the clocks after which the chip's reception timeout interrupts, if fewer characters
- * wait than the trigger level: the time of four characters, in which none came and none was
- * read.
+ * Returns the clocks after which the chip's reception timeout interrupts, if fewer characters wait
+ * than the trigger level: the time of four characters, in which none came and none was read.
  *
  * Errors
  *
- * Those of checked_divisor, if there is no divisor for the baud rate.
+ * Those of uart_checked_divisor, if there is no divisor for the baud rate.
  *
  * Proved: the time of so many characters.
  */
-static inline struct uart_u64_or_invalid_divisor_error
-uart_config_timeout_clocks(const struct u16550_core_config *config)
+static inline int
+uart_config_timeout_clocks(const struct u16550_core_config *config, uint64_t *clocks)
 {
-    struct uart_u64_or_invalid_divisor_error outcome = uart_config_character_clocks(config);
-    if (outcome.error.kind != UART_INVALID_DIVISOR_ERROR_NONE)
-        return uart_bad_u64_or_invalid_divisor_error(outcome.error);
-    return uart_good_u64_or_invalid_divisor_error(4 * outcome.value);
+    uint64_t found_clocks;
+    int status = uart_config_character_clocks(config, &found_clocks);
+    if (status != U16550_OK)
+        return status;
+    *clocks = 4 * found_clocks;
+    return U16550_OK;
 }
 #endif
 
@@ -7207,22 +6134,18 @@ uart_config_timeout_clocks(const struct u16550_core_config *config)
  *
  * Errors
  *
- * NonIntegerBaudRateError, with the arguments, if the baud rate is not a whole number.
+ * U16550_NON_INTEGER_BAUD_RATE, with the arguments, if the baud rate is not a whole number.
  *
- * Proved: this value and no other has the property.
- * Proved: the baud rate that this divisor gives exactly; or an error with the arguments, if
- * it gives no whole one.
+ * Proved: the baud rate that this divisor gives exactly; or an error with the arguments, if it
+ * gives no whole one.
  */
-static inline struct uart_u32_or_non_integer_baud_rate_error
+static inline int
 uart_calc_baud_rate(uint32_t frequency, uint32_t divisor,
-    struct u16550_core_maybe_u32 prescaler_division_factor)
+    struct u16550_core_maybe_u32 prescaler_division_factor, uint32_t *baud_rate)
 {
-    struct u16550_core_maybe_u32 found =
-        uart_other_factor(frequency, divisor, prescaler_division_factor);
-    if (found.is_some)
-        return uart_good_u32_or_non_integer_baud_rate_error(found.value);
-    return uart_bad_u32_or_non_integer_baud_rate_error(
-        uart_make_non_integer_baud_rate_error(frequency, divisor, prescaler_division_factor));
+    if (!uart_divide_clock(frequency, divisor, prescaler_division_factor, baud_rate))
+        return U16550_NON_INTEGER_BAUD_RATE;
+    return U16550_OK;
 }
 
 /*
@@ -7230,40 +6153,38 @@ uart_calc_baud_rate(uint32_t frequency, uint32_t divisor,
  * division factor: the case with a name if there is one, else Custom.
  *
  * The configuration's own baud rate does not matter. Its frequency must not be 0, and its
- * prescaler division factor must be None or at most 15.
+ * prescaler division factor must be none or at most 15.
  *
  * Errors
  *
- * NonIntegerBaudRateError if the divisor is 0, or if the baud rate is not a whole number.
+ * U16550_NON_INTEGER_BAUD_RATE if the divisor is 0, or if the baud rate is not a whole number.
  *
- * Proved: the baud rate that a dump's divisor gives, with its name if it has one; or an
- * error if it is not a whole number.
+ * Proved: the baud rate that a dump's divisor gives, with its name if it has one; or an error if
+ * it is not a whole number.
  */
-static struct uart_baud_rate_or_non_integer_baud_rate_error
+static int
 uart_config_register_dump_baud_rate(const struct u16550_dump *config_register_dump,
-    const struct u16550_core_config *config)
+    const struct u16550_core_config *config, struct u16550_core_baud_rate *baud_rate)
 {
     uint32_t frequency = config->frequency;
     struct u16550_core_maybe_u32 prescaler_division_factor = config->prescaler_division_factor;
-    uint32_t divisor = (uint32_t)uart_config_register_dump_divisor(config_register_dump);
-    if (divisor == 0) {
-        return uart_bad_baud_rate_or_non_integer_baud_rate_error(
-            uart_make_non_integer_baud_rate_error(frequency, divisor, prescaler_division_factor));
+    uint32_t divisor = uart_config_register_dump_divisor(config_register_dump);
+    if (divisor == 0)
+        return U16550_NON_INTEGER_BAUD_RATE;
+    uint32_t found_baud_rate;
+    if (uart_calc_baud_rate(frequency, divisor, prescaler_division_factor,
+        &found_baud_rate) != U16550_OK) {
+        return U16550_NON_INTEGER_BAUD_RATE;
     }
-    struct uart_u32_or_non_integer_baud_rate_error outcome =
-        uart_calc_baud_rate(frequency, divisor, prescaler_division_factor);
-    if (outcome.is_error)
-        return uart_bad_baud_rate_or_non_integer_baud_rate_error(outcome.error);
-    return uart_good_baud_rate_or_non_integer_baud_rate_error(
-        uart_baud_rate_from_integer(outcome.value));
+    *baud_rate = uart_baud_rate_from_bps(found_baud_rate);
+    return U16550_OK;
 }
 
 #ifndef U16550_OMIT_RINGS
 /*
  * Returns the low nibble of an ISR value that identifies this interrupt.
  *
- * Proved: bit 0 is clear, so an interrupt is pending, and the code is that of this
- * interrupt.
+ * Proved: bit 0 is clear, so an interrupt is pending, and the code is that of this interrupt.
  */
 static uint8_t uart_interrupt_type_to_bits(uint8_t interrupt_type)
 {
@@ -7289,27 +6210,25 @@ static uint8_t uart_interrupt_type_to_bits(uint8_t interrupt_type)
 /* --------------------------------------------------------------- what is by hand: memory of the caller, and calls that are not done */
 
 /* Takes so many cells from the front of the memory, if there are so many. */
-static struct uart_maybe_vec_u8
-uart_cells_in_memory(struct uart_memory *memory, uint8_t value, size_t count)
+static bool
+uart_cells_in_memory(struct uart_memory *memory, uint8_t value, size_t count, struct u16550_core_vec_u8 *cells)
 {
-    struct uart_maybe_vec_u8 made = { false, { NULL, 0, 0 } };
     if (count > memory->len)
-        return made;
-    made.is_some = true;
-    made.value.data = memory->data;
-    made.value.len = count;
-    made.value.capacity = count;
+        return false;
+    cells->data = memory->data;
+    cells->len = count;
+    cells->capacity = count;
     memory->data += count;
     memory->len -= count;
     for (size_t i = 0; i < count; i++)
-        made.value.data[i] = value;
-    return made;
+        cells->data[i] = value;
+    return true;
 }
 #endif
 
 /* Marks memory with a driver in it, and a call that is not done. Either is unlikely in other memory. */
 #define UART_MARK UINT32_C(0x16550a5e)
-#define UART_BUSY UINT32_C(0x16550b5b)
+#define UART_IS_BUSY UINT32_C(0x16550b5b)
 
 /* What is before this in the text is done before what is behind it, as an interrupt handler of the same processor sees it. */
 #if defined(__GNUC__)
@@ -7394,7 +6313,7 @@ static int uart_enter(struct u16550 *uart)
         return U16550_NOT_MADE;
     if (uart->is_busy != 0)
         return U16550_BUSY;
-    uart->is_busy = UART_BUSY;
+    uart->is_busy = UART_IS_BUSY;
     UART_FENCE();
     /* A handler that came before the sign was set may have ended the driver. */
     if (uart->mark != UART_MARK) {
@@ -7500,80 +6419,6 @@ static uint8_t uart_encode_word_length(uint8_t from)
     }
 }
 
-static int uart_decode_parity(uint8_t from, uint8_t *to)
-{
-    switch (from) {
-    case U16550_PARITY_NONE:
-        *to = U16550_CORE_PARITY_DISABLED;
-        return U16550_OK;
-    case U16550_PARITY_ODD:
-        *to = U16550_CORE_PARITY_ODD;
-        return U16550_OK;
-    case U16550_PARITY_EVEN:
-        *to = U16550_CORE_PARITY_EVEN;
-        return U16550_OK;
-    case U16550_PARITY_FORCED_1:
-        *to = U16550_CORE_PARITY_FORCED1;
-        return U16550_OK;
-    case U16550_PARITY_FORCED_0:
-        *to = U16550_CORE_PARITY_FORCED0;
-        return U16550_OK;
-    default:
-        return U16550_BAD_CODE;
-    }
-}
-
-static uint8_t uart_encode_parity(uint8_t from)
-{
-    switch (from) {
-    case U16550_CORE_PARITY_DISABLED:
-        return U16550_PARITY_NONE;
-    case U16550_CORE_PARITY_ODD:
-        return U16550_PARITY_ODD;
-    case U16550_CORE_PARITY_EVEN:
-        return U16550_PARITY_EVEN;
-    case U16550_CORE_PARITY_FORCED1:
-        return U16550_PARITY_FORCED_1;
-    case U16550_CORE_PARITY_FORCED0:
-    default:
-        return U16550_PARITY_FORCED_0;
-    }
-}
-
-static int uart_decode_transmitter_wait(uint8_t from, enum uart_transmitter_wait *to)
-{
-    switch (from) {
-    case U16550_WAIT_FIRST:
-        *to = UART_TRANSMITTER_WAIT_FIRST;
-        return U16550_OK;
-    case U16550_WAIT_LAST:
-        *to = UART_TRANSMITTER_WAIT_LAST;
-        return U16550_OK;
-    case U16550_WAIT_NEVER:
-        *to = UART_TRANSMITTER_WAIT_NEVER;
-        return U16550_OK;
-    default:
-        return U16550_BAD_CODE;
-    }
-}
-
-static int uart_decode_fifo_action(uint8_t from, enum uart_fifo_action *to)
-{
-    switch (from) {
-    case U16550_FIFOS_KEEP:
-        *to = UART_FIFO_ACTION_KEEP;
-        return U16550_OK;
-    case U16550_FIFOS_RESET:
-        *to = UART_FIFO_ACTION_RESET;
-        return U16550_OK;
-    case U16550_FIFOS_DISABLE:
-        *to = UART_FIFO_ACTION_DISABLE;
-        return U16550_OK;
-    default:
-        return U16550_BAD_CODE;
-    }
-}
-
 static int uart_decode_fifo_size(uint16_t from, uint8_t *to)
 {
     switch (from) {
@@ -7614,249 +6459,25 @@ static uint16_t uart_encode_fifo_size(uint8_t from)
     }
 }
 
-static int uart_decode_direction_line(uint8_t from, uint8_t *to)
+static int uart_check_parity(uint8_t parity)
 {
-    switch (from) {
-    case U16550_DIRECTION_RTS:
-        *to = U16550_CORE_DIRECTION_LINE_RTS;
-        return U16550_OK;
-    case U16550_DIRECTION_DTR:
-        *to = U16550_CORE_DIRECTION_LINE_DTR;
-        return U16550_OK;
-    default:
-        return U16550_BAD_CODE;
-    }
+    return uart_unless(parity <= U16550_PARITY_FORCED_0, U16550_BAD_CODE);
 }
 
-#ifndef U16550_OMIT_DESIGN_WARE
-static int uart_encode_design_ware_fault(uint8_t from)
+static int uart_check_transmitter_wait(uint8_t transmitter_wait)
 {
-    switch (from) {
-    case U16550_CORE_DESIGN_WARE_FAULT_LINE_CONTROL_IGNORED:
-        return U16550_DESIGN_WARE_LINE_CONTROL;
-    case U16550_CORE_DESIGN_WARE_FAULT_INTERRUPT_WITHOUT_END:
-    default:
-        return U16550_DESIGN_WARE_INTERRUPT;
-    }
-}
-#endif
-
-#ifndef U16550_OMIT_RINGS
-static uint8_t uart_encode_handle_end(enum uart_handle_end from)
-{
-    switch (from) {
-    case UART_HANDLE_END_IDLE:
-        return U16550_HANDLE_IDLE;
-    case UART_HANDLE_END_UNKNOWN:
-        return U16550_HANDLE_UNKNOWN;
-    case UART_HANDLE_END_LIMIT:
-    default:
-        return U16550_HANDLE_LIMIT;
-    }
-}
-#endif
-
-static int uart_status_of_attach_error(const enum uart_attach_error *error)
-{
-    switch (*error) {
-    case UART_ATTACH_ERROR_NONE:
-        return U16550_OK;
-    case UART_ATTACH_ERROR_DIVISOR_LATCH_OPEN:
-        return U16550_ATTACH_DIVISOR_LATCH_OPEN;
-    case UART_ATTACH_ERROR_LOOPBACK:
-        return U16550_ATTACH_LOOPBACK;
-    case UART_ATTACH_ERROR_NO_DIVISOR:
-    default:
-        return U16550_ATTACH_NO_DIVISOR;
-    }
+    return uart_unless(transmitter_wait <= U16550_WAIT_NEVER, U16550_BAD_CODE);
 }
 
-static int uart_status_of_byte_send_error(const enum uart_byte_send_error *error)
+static int uart_check_fifo_action(uint8_t fifo_action)
 {
-    switch (*error) {
-    case UART_BYTE_SEND_ERROR_NONE:
-        return U16550_OK;
-    case UART_BYTE_SEND_ERROR_NO_CAPACITY:
-        return U16550_SEND_NO_CAPACITY;
-    case UART_BYTE_SEND_ERROR_REMOTE_NOT_CLEAR_TO_SEND:
-    default:
-        return U16550_SEND_NOT_CLEAR_TO_SEND;
-    }
+    return uart_unless(fifo_action <= U16550_FIFOS_DISABLE, U16550_BAD_CODE);
 }
 
-static int uart_status_of_configuration_error(const struct uart_configuration_error *error)
+static int uart_check_direction_line(uint8_t direction_line)
 {
-    switch (error->kind) {
-    case UART_CONFIGURATION_ERROR_NONE:
-        return U16550_OK;
-    case UART_CONFIGURATION_ERROR_NO_DIVISOR:
-        return U16550_CONFIGURATION_NO_DIVISOR;
-    case UART_CONFIGURATION_ERROR_LINE_CONTROL:
-        return U16550_CONFIGURATION_LINE_CONTROL;
-    case UART_CONFIGURATION_ERROR_MODEM_CONTROL:
-        return U16550_CONFIGURATION_MODEM_CONTROL;
-    case UART_CONFIGURATION_ERROR_INTERRUPTS:
-        return U16550_CONFIGURATION_INTERRUPTS;
-    case UART_CONFIGURATION_ERROR_DIVISOR:
-        return U16550_CONFIGURATION_DIVISOR;
-    case UART_CONFIGURATION_ERROR_FIFOS:
-    default:
-        return U16550_CONFIGURATION_FIFOS;
-    }
+    return uart_unless(direction_line <= U16550_DIRECTION_DTR, U16550_BAD_CODE);
 }
-
-static int uart_status_of_fifo_size_error(const struct uart_fifo_size_error *error)
-{
-    switch (error->kind) {
-    case UART_FIFO_SIZE_ERROR_NONE:
-        return U16550_OK;
-    case UART_FIFO_SIZE_ERROR_FIFOS_OFF:
-        return U16550_FIFOS_OFF;
-    case UART_FIFO_SIZE_ERROR_TOO_FEW:
-        return U16550_FIFOS_TOO_FEW;
-    case UART_FIFO_SIZE_ERROR_STALLED:
-    default:
-        return U16550_FIFOS_STALLED;
-    }
-}
-
-static int uart_status_of_frame_error(const struct uart_frame_error *error)
-{
-    switch (error->kind) {
-    case UART_FRAME_ERROR_NONE:
-        return U16550_OK;
-    case UART_FRAME_ERROR_INVALID_BAUD_RATE:
-        return error->invalid_baud_rate.kind == UART_INVALID_DIVISOR_ERROR_NON_INTEGER ? U16550_FRAME_NON_INTEGER_DIVISOR :
-            U16550_FRAME_DIVISOR_OUT_OF_RANGE;
-    case UART_FRAME_ERROR_STALLED:
-    default:
-        return U16550_FRAME_STALLED;
-    }
-}
-
-static int uart_status_of_init_error(const struct uart_init_error *error)
-{
-    switch (error->kind) {
-    case UART_INIT_ERROR_NONE:
-        return U16550_OK;
-    case UART_INIT_ERROR_DEVICE_NOT_PRESENT:
-        return U16550_INIT_DEVICE_NOT_PRESENT;
-    case UART_INIT_ERROR_INVALID_BAUD_RATE:
-        return error->invalid_baud_rate.kind == UART_INVALID_DIVISOR_ERROR_NON_INTEGER ? U16550_INIT_NON_INTEGER_DIVISOR :
-            U16550_INIT_DIVISOR_OUT_OF_RANGE;
-    case UART_INIT_ERROR_STALLED:
-    default:
-        return U16550_INIT_STALLED;
-    }
-}
-
-static int uart_status_of_invalid_divisor_error(const struct uart_invalid_divisor_error *error)
-{
-    switch (error->kind) {
-    case UART_INVALID_DIVISOR_ERROR_NONE:
-        return U16550_OK;
-    case UART_INVALID_DIVISOR_ERROR_NON_INTEGER:
-        return U16550_FRAME_NON_INTEGER_DIVISOR;
-    case UART_INVALID_DIVISOR_ERROR_OUT_OF_RANGE:
-    default:
-        return U16550_FRAME_DIVISOR_OUT_OF_RANGE;
-    }
-}
-
-#ifndef U16550_OMIT_LOOPBACK
-static int uart_status_of_loopback_error(const struct uart_loopback_error *error)
-{
-    switch (error->kind) {
-    case UART_LOOPBACK_ERROR_NONE:
-        return U16550_OK;
-    case UART_LOOPBACK_ERROR_SEND_ERROR:
-        return error->send_error == UART_BYTE_SEND_ERROR_NO_CAPACITY ? U16550_LOOPBACK_NO_CAPACITY :
-            U16550_LOOPBACK_NOT_CLEAR_TO_SEND;
-    case UART_LOOPBACK_ERROR_UNEXPECTED_LOOPBACK_BYTE:
-        return U16550_LOOPBACK_UNEXPECTED_BYTE;
-    case UART_LOOPBACK_ERROR_UNEXPECTED_LOOPBACK_MSG:
-        return U16550_LOOPBACK_UNEXPECTED_MSG;
-    case UART_LOOPBACK_ERROR_STALLED:
-    default:
-        return U16550_LOOPBACK_STALLED;
-    }
-}
-#endif
-
-#ifndef U16550_OMIT_TIMES
-static int uart_status_of_nearest_divisor_error(const struct uart_nearest_divisor_error *error)
-{
-    switch (error->kind) {
-    case UART_NEAREST_DIVISOR_ERROR_NONE:
-        return U16550_OK;
-    case UART_NEAREST_DIVISOR_ERROR_TOO_FAR:
-        return U16550_NEAREST_TOO_FAR;
-    case UART_NEAREST_DIVISOR_ERROR_OUT_OF_RANGE:
-    default:
-        return U16550_NEAREST_OUT_OF_RANGE;
-    }
-}
-#endif
-
-static int uart_status_of_remote_ready_to_receive_error(const enum uart_remote_ready_to_receive_error *error)
-{
-    switch (*error) {
-    case UART_REMOTE_READY_TO_RECEIVE_ERROR_NONE:
-        return U16550_OK;
-    case UART_REMOTE_READY_TO_RECEIVE_ERROR_NO_REMOTE_CONNECTED_NO_DSR:
-        return U16550_REMOTE_NO_DSR;
-    case UART_REMOTE_READY_TO_RECEIVE_ERROR_NO_REMOTE_CONNECTED_NO_CD:
-        return U16550_REMOTE_NO_CD;
-    case UART_REMOTE_READY_TO_RECEIVE_ERROR_REMOTE_NOT_CLEAR_TO_SEND:
-    default:
-        return U16550_REMOTE_NOT_CLEAR_TO_SEND;
-    }
-}
-
-#ifndef U16550_OMIT_RINGS
-static int uart_status_of_ring_error(const enum uart_ring_error *error)
-{
-    switch (*error) {
-    case UART_RING_ERROR_NONE:
-        return U16550_OK;
-    case UART_RING_ERROR_BAD_CAPACITY:
-        return U16550_RING_BAD_CAPACITY;
-    case UART_RING_ERROR_OUT_OF_MEMORY:
-    default:
-        return U16550_RING_OUT_OF_MEMORY;
-    }
-}
-#endif
-
-#ifndef U16550_OMIT_BUS
-static int uart_status_of_send_error(const struct uart_send_error *error)
-{
-    switch (error->kind) {
-    case UART_SEND_ERROR_NONE:
-        return U16550_OK;
-    case UART_SEND_ERROR_NOT_SENDING:
-        return U16550_BUS_NOT_SENDING;
-    case UART_SEND_ERROR_STALLED:
-    default:
-        return U16550_STALLED;
-    }
-}
-#endif
-
-#ifndef U16550_OMIT_RINGS
-static int uart_status_of_stuck_error(const struct u16550_core_stuck_error *error)
-{
-    switch (error->kind) {
-    case U16550_CORE_STUCK_ERROR_NONE:
-        return U16550_OK;
-    case U16550_CORE_STUCK_ERROR_UNKNOWN:
-        return U16550_RING_STUCK_UNKNOWN;
-    case U16550_CORE_STUCK_ERROR_PENDING:
-    default:
-        return U16550_RING_STUCK_PENDING;
-    }
-}
-#endif
 
 /* --------------------------------------------------------------- data of the header as those of the driver, and back */
 
@@ -7872,6 +6493,7 @@ static int uart_decode_level(uint8_t from, struct u16550_core_maybe_fifo_trigger
 static int uart_decode_config(const struct u16550_config *from, struct u16550_core_config *to)
 {
     int status = uart_check_flag(from->has_prescaler);
+    to->data_bits = U16550_CORE_WORD_LENGTH_EIGHT_BITS;
     if (status == U16550_OK)
         status = uart_check_flag(from->extra_stop_bits);
     if (status == U16550_OK)
@@ -7881,12 +6503,13 @@ static int uart_decode_config(const struct u16550_config *from, struct u16550_co
     if (status == U16550_OK)
         status = uart_decode_word_length(from->data_bits, &to->data_bits);
     if (status == U16550_OK)
-        status = uart_decode_parity(from->parity, &to->parity);
+        status = uart_check_parity(from->parity);
+    to->parity = from->parity;
     to->interrupts = from->interrupts;
     to->frequency = from->frequency;
     to->prescaler_division_factor.is_some = from->has_prescaler == 1;
     to->prescaler_division_factor.value = from->prescaler_division_factor;
-    to->baud_rate = uart_baud_rate_from_integer(from->baud_rate);
+    to->baud_rate = uart_baud_rate_from_bps(from->baud_rate);
     to->extra_stop_bits = from->extra_stop_bits == 1;
     to->check_cts_before_sending = from->check_cts_before_sending == 1;
     return status;
@@ -7907,14 +6530,14 @@ static void uart_encode_config(const struct u16550_core_config *from, struct u16
 {
     bool has_prescaler = from->prescaler_division_factor.is_some;
     to->frequency = from->frequency;
-    to->baud_rate = uart_baud_rate_to_integer(from->baud_rate);
+    to->baud_rate = uart_baud_rate_bps(from->baud_rate);
     to->prescaler_division_factor = has_prescaler ? from->prescaler_division_factor.value : 0;
     to->has_prescaler = has_prescaler;
     to->interrupts = from->interrupts;
     to->fifo_trigger_level = (uint8_t)(from->fifo_trigger_level.is_some ? uart_encode_fifo_trigger_level(from->fifo_trigger_level.value) : 0);
     to->data_bits = uart_encode_word_length(from->data_bits);
     to->extra_stop_bits = from->extra_stop_bits;
-    to->parity = uart_encode_parity(from->parity);
+    to->parity = from->parity;
     to->check_cts_before_sending = from->check_cts_before_sending;
 }
 
@@ -7950,9 +6573,10 @@ static int uart_decode_setup(const struct u16550_setup *from, struct uart_setup 
 {
     int status = from == NULL ? U16550_NULL_POINTER : uart_check_flag(from->checks_presence);
     if (status == U16550_OK)
-        status = uart_decode_transmitter_wait(from->wait, &to->wait);
+        status = uart_check_transmitter_wait(from->wait);
     if (status != U16550_OK)
         return status;
+    to->wait = from->wait;
     to->checks_presence = from->checks_presence == 1;
     to->outputs = from->outputs;
     return U16550_OK;
@@ -7969,59 +6593,20 @@ static struct uart_receive_marks uart_marks(size_t hold, size_t release)
 #endif
 
 #ifndef U16550_OMIT_LOOPBACK
-static void uart_encode_failure(const struct uart_loopback_error *error, struct u16550_loopback_failure *to)
+static void uart_encode_failure(const struct uart_loopback_failure *from, struct u16550_loopback_failure *to)
 {
-    to->expected = error->unexpected_loopback_byte_expected;
-    to->actual = error->unexpected_loopback_byte_actual;
-    uart_copy_bytes(to->expected_msg, error->unexpected_loopback_msg_expected.bytes, 16);
-    uart_copy_bytes(to->actual_msg, error->unexpected_loopback_msg_actual.bytes, 16);
-}
-#endif
-
-static struct u16550_difference uart_difference(unsigned expected, unsigned shown)
-{
-    struct u16550_difference made = { (uint16_t)expected, (uint16_t)shown };
-    return made;
-}
-
-static struct u16550_difference uart_encode_difference(const struct uart_configuration_error *error)
-{
-    switch (error->kind) {
-    case UART_CONFIGURATION_ERROR_LINE_CONTROL:
-        return uart_difference(error->line_control_expected, error->line_control_shown);
-    case UART_CONFIGURATION_ERROR_MODEM_CONTROL:
-        return uart_difference(error->modem_control_expected, error->modem_control_shown);
-    case UART_CONFIGURATION_ERROR_INTERRUPTS:
-        return uart_difference(error->interrupts_expected, error->interrupts_shown);
-    case UART_CONFIGURATION_ERROR_DIVISOR:
-        return uart_difference(error->divisor_expected, error->divisor_shown);
-    case UART_CONFIGURATION_ERROR_FIFOS:
-        return uart_difference(error->fifos_expected, error->fifos_shown);
-    case UART_CONFIGURATION_ERROR_NO_DIVISOR:
-    case UART_CONFIGURATION_ERROR_NONE:
-    default:
-        return uart_difference(0, 0);
-    }
-}
-
-#ifndef U16550_OMIT_RINGS
-static struct u16550_handled uart_encode_handled(struct uart_handled from)
-{
-    struct u16550_handled made = { from.served, uart_encode_handle_end(from.end) };
-    return made;
-}
-
-static struct u16550_urgent uart_encode_urgent(struct u16550_core_maybe_u8 urgent)
-{
-    struct u16550_urgent made = { urgent.is_some, (uint8_t)(urgent.is_some ? urgent.value : 0) };
-    return made;
+    to->expected = from->expected;
+    to->actual = from->actual;
+    uart_copy_bytes(to->expected_msg, from->expected_msg.bytes, 16);
+    uart_copy_bytes(to->actual_msg, from->actual_msg.bytes, 16);
 }
 #endif
 
 /* A byte that goes first, if there is one. */
 static int uart_decode_urgent(const uint8_t *from, struct u16550_core_maybe_u8 *to)
 {
-    *to = from == NULL ? uart_no_u8() : uart_some_u8(*from);
+    to->is_some = from != NULL;
+    to->value = (uint8_t)(from != NULL ? *from : 0);
     return U16550_OK;
 }
 
@@ -8043,7 +6628,7 @@ static int uart_check_io(const struct u16550_io *io)
 static int uart_check_memory(struct u16550 *uart)
 {
     int status = UART_USABLE(uart, handle);
-    return status == U16550_OK && uart->is_busy == UART_BUSY ? U16550_BUSY : status;
+    return status == U16550_OK && uart->is_busy == UART_IS_BUSY ? U16550_BUSY : status;
 }
 
 /*
@@ -8052,7 +6637,7 @@ static int uart_check_memory(struct u16550 *uart)
  */
 static void uart_begin(struct u16550 *uart)
 {
-    uart->is_busy = UART_BUSY;
+    uart->is_busy = UART_IS_BUSY;
     UART_FENCE();
 }
 
@@ -8165,35 +6750,33 @@ int u16550_set_io(struct u16550 *uart, const struct u16550_io *io)
 #ifndef U16550_OMIT_LOOPBACK
 int u16550_test_loopback(struct u16550 *uart, struct u16550_loopback_failure *failure)
 {
-    struct uart_loopback_error error;
+    struct uart_loopback_failure found = { 0, 0, { { 0 } }, { { 0 } } };
     int status = uart_enter(uart);
     if (status != U16550_OK)
         return status;
-    error = uart_test_loopback(&uart->ring.uart);
-    status = uart_status_of_loopback_error(&error);
+    status = uart_test_loopback(&uart->ring.uart, &found);
     if (status != U16550_OK && failure != NULL)
-        uart_encode_failure(&error, failure);
+        uart_encode_failure(&found, failure);
     return uart_leave(uart, status);
 }
 #endif
 
 int u16550_check_configured(struct u16550 *uart, uint8_t outputs, struct u16550_difference *difference)
 {
-    struct uart_configuration_error error;
+    struct u16550_difference found = { 0, 0 };
     int status = uart_enter(uart);
     if (status != U16550_OK)
         return status;
     status = UART_ALIGNED(difference, difference);
     if (status != U16550_OK)
         return uart_leave(uart, status);
-    error = uart_check_configured(&uart->ring.uart, outputs);
-    status = uart_status_of_configuration_error(&error);
+    status = uart_check_configured(&uart->ring.uart, outputs, &found);
     if (status != U16550_OK && difference != NULL)
-        *difference = uart_encode_difference(&error);
+        *difference = found;
     return uart_leave(uart, status);
 }
 
-/* Brings the chip into a state in which text goes out, as the emergency console of the Rust crate does. */
+/* Brings the chip into a state in which text goes out. */
 static int uart_take_over(struct u16550_core_driver *uart)
 {
     const uint8_t no_text = U16550_LCR_DLAB | U16550_LCR_SET_BREAK;
@@ -8221,6 +6804,8 @@ int u16550_emergency(struct u16550 *uart)
         return uart_leave(uart, U16550_HAS_RINGS);
     console = uart_new_with_backend(uart->ring.uart.backend);
     uart_set_spin_limit(&console, uart->ring.uart.spin_limit);
+    /* Nobody knows whether the FIFOs are on. If they are off, the second byte of a burst would be lost. */
+    console.fifo_enabled = false;
     status = uart_take_over(&console);
     if (status == U16550_OK)
         uart->ring.uart = console;
@@ -8247,17 +6832,15 @@ int u16550_default_config(struct u16550_config *config)
 #ifndef U16550_OMIT_TIMES
 int u16550_nearest(const struct u16550_config *config, uint32_t per_mille, struct u16550_config *nearest)
 {
-    struct uart_config_or_nearest_divisor_error found;
-    struct u16550_core_config decoded;
+    struct u16550_core_config decoded, found;
     int status = UART_USABLE(nearest, config);
     if (status == U16550_OK)
         status = uart_decode_computable(config, &decoded);
     if (status != U16550_OK)
         return status;
-    found = uart_config_nearest(decoded, per_mille);
-    status = uart_status_of_nearest_divisor_error(&found.error);
+    status = uart_config_nearest(decoded, per_mille, &found);
     if (status == U16550_OK)
-        uart_encode_config(&found.value, nearest);
+        uart_encode_config(&found, nearest);
     return status;
 }
 #endif
@@ -8274,7 +6857,7 @@ int u16550_dump_divisor(const struct u16550_dump *dump, uint16_t *divisor)
 
 int u16550_dump_baud_rate(const struct u16550_dump *dump, const struct u16550_config *config, uint32_t *baud_rate)
 {
-    struct uart_baud_rate_or_non_integer_baud_rate_error rate;
+    struct u16550_core_baud_rate rate;
     struct u16550_core_config decoded;
     int status = UART_USABLE(baud_rate, u32);
     if (status == U16550_OK && dump == NULL)
@@ -8287,11 +6870,10 @@ int u16550_dump_baud_rate(const struct u16550_dump *dump, const struct u16550_co
         return status;
     if (decoded.frequency == 0 || (decoded.prescaler_division_factor.is_some && decoded.prescaler_division_factor.value > 15))
         return U16550_NOT_COMPUTABLE;
-    rate = uart_config_register_dump_baud_rate(dump, &decoded);
-    if (rate.is_error)
-        return U16550_NON_INTEGER_BAUD_RATE;
-    *baud_rate = uart_baud_rate_to_integer(rate.value);
-    return U16550_OK;
+    status = uart_config_register_dump_baud_rate(dump, &decoded, &rate);
+    if (status == U16550_OK)
+        *baud_rate = uart_baud_rate_bps(rate);
+    return status;
 }
 
 #ifndef U16550_OMIT_RINGS
@@ -8299,7 +6881,8 @@ int u16550_dump_baud_rate(const struct u16550_dump *dump, const struct u16550_co
 
 int u16550_ring_new(struct u16550 *uart, uint8_t *memory, size_t size, size_t tx_capacity, size_t rx_capacity)
 {
-    struct uart_ring_or_pair_of_driver_ring_error made;
+    struct u16550_core_driver driver;
+    struct u16550_core_ring made;
     struct uart_memory cells = { memory, size };
     int status = uart_enter(uart);
     if (status != U16550_OK)
@@ -8307,10 +6890,10 @@ int u16550_ring_new(struct u16550 *uart, uint8_t *memory, size_t size, size_t tx
     status = uart->has_rings ? U16550_HAS_RINGS : uart_array(memory, size, 1, 1);
     if (status != U16550_OK)
         return uart_leave(uart, status);
-    made = uart_ring_new(&cells, uart->ring.uart, tx_capacity, rx_capacity);
-    if (made.is_error)
-        return uart_leave(uart, uart_status_of_ring_error(&made.error.second));
-    uart->ring = made.value;
+    status = uart_ring_new(&cells, uart->ring.uart, tx_capacity, rx_capacity, &made, &driver);
+    if (status != U16550_OK)
+        return uart_leave(uart, status);
+    uart->ring = made;
     uart->has_rings = true;
     return uart_leave(uart, U16550_OK);
 }
@@ -8326,18 +6909,17 @@ int u16550_ring_end(struct u16550 *uart)
 
 int u16550_ring_stuck(struct u16550 *uart, struct u16550_stuck *stuck)
 {
-    struct u16550_core_maybe_stuck_error found;
+    struct u16550_core_stuck_error found;
     int status = stuck == NULL ? U16550_NULL_POINTER : uart_enter_rings(uart);
     if (status != U16550_OK)
         return status;
-    found = uart_ring_stuck(&uart->ring);
+    stuck->is_stuck = uart_ring_stuck(&uart->ring, &found);
     uart_leave(uart, U16550_OK);
-    stuck->is_stuck = found.is_some;
     stuck->isr = 0;
-    if (found.is_some && found.value.kind == U16550_CORE_STUCK_ERROR_UNKNOWN)
-        stuck->isr = found.value.unknown & 0x0f;
-    else if (found.is_some)
-        stuck->isr = uart_interrupt_type_to_bits(found.value.pending);
+    if (stuck->is_stuck && found.kind == U16550_RING_STUCK_UNKNOWN)
+        stuck->isr = found.unknown & 0x0f;
+    else if (stuck->is_stuck)
+        stuck->isr = uart_interrupt_type_to_bits(found.pending);
     return U16550_OK;
 }
 
@@ -8346,10 +6928,16 @@ static inline size_t uart_line_ports_number(const struct uart_line_ports *ports)
     return ports->count;
 }
 
+/* The port of this number. A compiler would call a multiplication where a processor has none. */
+static struct u16550_line_port *uart_line_port(struct u16550_line_port *ports, size_t port)
+{
+    return (struct u16550_line_port *)(void *)((uint8_t *)ports + uart_times(port, sizeof(struct u16550_line_port)));
+}
+
 static bool
 uart_line_ports_lower(struct uart_line_ports *ports, size_t port, size_t limit, uint32_t rounds)
 {
-    struct u16550_line_port *at = &ports->ports[port];
+    struct u16550_line_port *at = uart_line_port(ports->ports, port);
     struct uart_lowered lowered;
     at->handled.served = 0;
     at->handled.end = U16550_HANDLE_IDLE;
@@ -8359,16 +6947,16 @@ uart_line_ports_lower(struct uart_line_ports *ports, size_t port, size_t limit, 
     lowered = uart_ring_lower_line(&at->uart->ring, limit, rounds);
     uart_leave(at->uart, U16550_OK);
     at->enabled = lowered.enabled;
-    at->status = uart_status_of_stuck_error(&lowered.handled.error);
+    at->status = lowered.handled.error.kind;
     if (at->status != U16550_OK)
         return false;
-    at->handled = uart_encode_handled(lowered.handled.value);
+    at->handled = lowered.handled.value;
     return at->handled.served > 0;
 }
 
 static void uart_line_ports_raise(struct uart_line_ports *ports, size_t port)
 {
-    struct u16550_line_port *at = &ports->ports[port];
+    struct u16550_line_port *at = uart_line_port(ports->ports, port);
     if (uart_enter_rings(at->uart) != U16550_OK)
         return;
     uart_ring_raise_line(&at->uart->ring, at->enabled);
@@ -8381,9 +6969,10 @@ int u16550_line_handle(struct u16550_line_port *ports, size_t count, size_t limi
     int status = served == NULL ? U16550_NULL_POINTER :
         uart_array(ports, count, sizeof(struct u16550_line_port), offsetof(struct uart_aligned_port, value));
     for (size_t port = 0; status == U16550_OK && port < count; port++) {
-        status = uart_enter_rings(ports[port].uart);
+        struct u16550 *uart = uart_line_port(ports, port)->uart;
+        status = uart_enter_rings(uart);
         if (status == U16550_OK)
-            uart_leave(ports[port].uart, U16550_OK);
+            uart_leave(uart, U16550_OK);
     }
     if (status == U16550_OK)
         *served = uart_handle_line(&line, limit, rounds);
@@ -8427,8 +7016,8 @@ static bool uart_is_utf8(const uint8_t *text, size_t len)
 static int uart_send_text(struct u16550 *uart, const char *text, size_t len, size_t *done, bool is_checked)
 {
     const uint8_t *bytes = (const uint8_t *)text;
-    struct uart_maybe_stalled_error stalled;
     struct uart_tty terminal;
+    size_t sent = 0;
     int status = UART_ALIGNED(done, size);
     if (status == U16550_OK)
         status = uart_enter(uart);
@@ -8440,12 +7029,12 @@ static int uart_send_text(struct u16550 *uart, const char *text, size_t len, siz
     if (status != U16550_OK)
         return uart_leave(uart, status);
     terminal.inner = uart->ring.uart;
-    stalled = uart_tty_write_raw_text(&terminal, bytes, len);
+    status = uart_tty_write_raw_text(&terminal, bytes, len, &sent);
     uart->ring.uart = terminal.inner;
     uart_leave(uart, U16550_OK);
-    if (stalled.is_error && done != NULL)
-        *done = stalled.error;
-    return uart_if(stalled.is_error, U16550_STALLED);
+    if (status != U16550_OK && done != NULL)
+        *done = sent;
+    return status;
 }
 
 int u16550_write_text(struct u16550 *uart, const char *text, size_t len, size_t *done)
@@ -8666,7 +7255,7 @@ int (u16550_new_mmio_design_ware)(struct u16550 *uart, struct u16550_design_ware
 
 int u16550_design_ware_fault(struct u16550 *uart, struct u16550_design_ware *chip)
 {
-    struct u16550_core_maybe_design_ware_fault fault;
+    uint8_t fault;
     int status = UART_USABLE(chip, chip);
     if (status == U16550_OK)
         status = uart_enter(uart);
@@ -8674,8 +7263,7 @@ int u16550_design_ware_fault(struct u16550 *uart, struct u16550_design_ware *chi
         return status;
     if (uart->ring.uart.backend.io.context != (void *)chip)
         return uart_leave(uart, U16550_NOT_MADE);
-    fault = uart_design_ware_fault(&chip->chip);
-    return uart_leave(uart, fault.is_some ? uart_encode_design_ware_fault(fault.value) : U16550_OK);
+    return uart_leave(uart, uart_design_ware_fault(&chip->chip, &fault) ? (int)fault : U16550_OK);
 }
 #endif
 
@@ -8704,7 +7292,8 @@ static struct u16550_notes *uart_notes_of(const struct u16550 *uart)
 
 int u16550_note_errors(struct u16550 *uart, struct u16550_notes *notes, uint8_t *memory, size_t capacity)
 {
-    struct uart_error_notes_or_pair_of_ring_error made;
+    struct u16550_device given;
+    struct u16550_core_error_notes made;
     struct uart_memory cells = { memory, capacity };
     struct u16550_device *device;
     int status = UART_USABLE(notes, notes);
@@ -8716,10 +7305,10 @@ int u16550_note_errors(struct u16550 *uart, struct u16550_notes *notes, uint8_t 
     if (status != U16550_OK)
         return uart_leave(uart, status);
     device = uart_backend_mut(&uart->ring.uart);
-    made = uart_error_notes_new(&cells, *device, capacity);
-    if (made.is_error)
-        return uart_leave(uart, uart_status_of_ring_error(&made.error.second));
-    notes->notes = made.value;
+    status = uart_error_notes_new(&cells, *device, capacity, &made, &given);
+    if (status != U16550_OK)
+        return uart_leave(uart, status);
+    notes->notes = made;
     device->io.context = notes;
     device->io.read = uart_noted_read;
     device->io.write = uart_noted_write;
@@ -8743,7 +7332,7 @@ int u16550_end_notes(struct u16550 *uart)
 
 int u16550_ring_take_with_errors(struct u16550 *uart, struct u16550_received *received, size_t len, size_t *count)
 {
-    struct uart_u64_or_unnoted_error copied;
+    size_t copied, unnoted;
     const struct u16550_notes *notes;
     int status = UART_USABLE(count, size);
     if (status == U16550_OK)
@@ -8754,12 +7343,11 @@ int u16550_ring_take_with_errors(struct u16550 *uart, struct u16550_received *re
     status = notes == NULL ? U16550_NO_NOTES : uart_array(received, len, sizeof(struct u16550_received), 1);
     if (status != U16550_OK)
         return uart_leave(uart, status);
-    copied = uart_ring_copy_with_notes(&uart->ring, &notes->notes, received, len);
-    if (!copied.is_error)
-        uart_ring_drop_taken(&uart->ring, (size_t)copied.value);
-    status = uart_leave(uart, uart_if(copied.is_error, U16550_RING_UNNOTED));
-    *count = (size_t)(copied.is_error ? copied.error : copied.value);
-    return status;
+    status = uart_ring_copy_with_notes(&uart->ring, &notes->notes, received, len, &copied, &unnoted);
+    if (status == U16550_OK)
+        uart_ring_drop_taken(&uart->ring, copied);
+    *count = status == U16550_OK ? copied : unnoted;
+    return uart_leave(uart, status);
 }
 #endif
 
@@ -8783,7 +7371,7 @@ static int uart_enter_bus(struct u16550_bus *bus)
         return U16550_NOT_MADE;
     if (bus->is_busy != 0)
         return U16550_BUSY;
-    bus->is_busy = UART_BUSY;
+    bus->is_busy = UART_IS_BUSY;
     UART_FENCE();
     /* A handler that came before the sign was set may have ended the bus. */
     if (bus->mark != UART_BUS_MARK) {
@@ -8805,10 +7393,12 @@ static int uart_decode_direction(const struct u16550_direction *from, struct u16
 {
     int status = from == NULL ? U16550_NULL_POINTER : uart_check_flag(from->sends_when_set);
     if (status == U16550_OK)
-        status = uart_decode_direction_line(from->line, &to->line);
-    if (status == U16550_OK)
-        to->sends_when_set = from->sends_when_set == 1;
-    return status;
+        status = uart_check_direction_line(from->line);
+    if (status != U16550_OK)
+        return status;
+    to->line = from->line;
+    to->sends_when_set = from->sends_when_set == 1;
+    return U16550_OK;
 }
 
 int u16550_direction_receiving(const struct u16550_direction *direction, uint8_t outputs, uint8_t *receiving)
@@ -8823,11 +7413,12 @@ int u16550_direction_receiving(const struct u16550_direction *direction, uint8_t
 #ifndef U16550_OMIT_BUS
 int u16550_bus_new(struct u16550_bus *bus, struct u16550 *uart, const struct u16550_direction *direction)
 {
-    struct uart_half_duplex_or_pair_of_driver_busy_error made;
+    struct u16550_core_half_duplex made;
+    struct u16550_core_driver driver;
     struct u16550_core_direction decoded;
     uint32_t before;
     int status = UART_USABLE(bus, bus);
-    if (status == U16550_OK && bus->is_busy == UART_BUSY)
+    if (status == U16550_OK && bus->is_busy == UART_IS_BUSY)
         status = U16550_BUSY;
     if (status == U16550_OK)
         status = uart_enter(uart);
@@ -8838,16 +7429,16 @@ int u16550_bus_new(struct u16550_bus *bus, struct u16550 *uart, const struct u16
         return uart_leave(uart, status);
     /* A handler that comes from now on finds a call that is not done, at a bus that was there too. */
     before = bus->is_busy;
-    bus->is_busy = UART_BUSY;
+    bus->is_busy = UART_IS_BUSY;
     UART_FENCE();
-    made = uart_half_duplex_new(uart->ring.uart, decoded);
-    if (made.is_error) {
-        uart->ring.uart = made.error.first;
+    status = uart_half_duplex_new(uart->ring.uart, decoded, &made, &driver);
+    if (status != U16550_OK) {
+        uart->ring.uart = driver;
         bus->is_busy = before;
-        return uart_leave(uart, U16550_BUS_BUSY);
+        return uart_leave(uart, status);
     }
     bus->mark = UART_BUS_MARK;
-    bus->bus = made.value;
+    bus->bus = made;
     uart->mark = 0;
     uart_leave(uart, U16550_OK);
     return uart_leave_bus(bus, U16550_OK);
@@ -8892,10 +7483,11 @@ int u16550_bus_try_finish(struct u16550_bus *bus)
 
 int u16550_bus_flush(struct u16550_bus *bus)
 {
+    size_t done;
     int status = uart_enter_bus(bus);
     if (status != U16550_OK)
         return status;
-    return uart_leave_bus(bus, uart_if(uart_half_duplex_flush(&bus->bus).is_error, U16550_STALLED));
+    return uart_leave_bus(bus, uart_half_duplex_flush(&bus->bus, &done));
 }
 
 int u16550_bus_is_idle(struct u16550_bus *bus, uint8_t *idle)
@@ -8936,7 +7528,7 @@ int u16550_bus_lsr(struct u16550_bus *bus, uint8_t *value)
 
 int u16550_bus_send_bytes(struct u16550_bus *bus, const uint8_t *buffer, size_t len, size_t *count)
 {
-    struct uart_maybe_u64 sent;
+    size_t sent;
     int status = UART_USABLE(count, size);
     if (status == U16550_OK)
         status = uart_enter_bus(bus);
@@ -8945,17 +7537,16 @@ int u16550_bus_send_bytes(struct u16550_bus *bus, const uint8_t *buffer, size_t 
     status = uart_array(buffer, len, 1, 1);
     if (status != U16550_OK)
         return uart_leave_bus(bus, status);
-    sent = uart_half_duplex_send_bytes(&bus->bus, buffer, len);
-    status = uart_leave_bus(bus, uart_unless(sent.is_some, U16550_BUS_NOT_SENDING));
+    status = uart_unless(uart_half_duplex_send_bytes(&bus->bus, buffer, len, &sent), U16550_BUS_NOT_SENDING);
+    uart_leave_bus(bus, status);
     if (status == U16550_OK)
-        *count = (size_t)sent.value;
+        *count = sent;
     return status;
 }
 
 int u16550_bus_send_bytes_exact(struct u16550_bus *bus, const uint8_t *buffer, size_t len, size_t *done)
 {
-    struct uart_send_error error;
-    size_t sent = len;
+    size_t sent = 0;
     int status = UART_ALIGNED(done, size);
     if (status == U16550_OK)
         status = uart_enter_bus(bus);
@@ -8964,14 +7555,9 @@ int u16550_bus_send_bytes_exact(struct u16550_bus *bus, const uint8_t *buffer, s
     status = uart_array(buffer, len, 1, 1);
     if (status != U16550_OK)
         return uart_leave_bus(bus, status);
-    error = uart_half_duplex_send_bytes_exact(&bus->bus, buffer, len);
-    if (error.kind == UART_SEND_ERROR_NOT_SENDING)
-        sent = 0;
-    else if (error.kind == UART_SEND_ERROR_STALLED)
-        sent = error.stalled;
-    status = uart_leave_bus(bus, uart_status_of_send_error(&error));
+    status = uart_leave_bus(bus, uart_half_duplex_send_bytes_exact(&bus->bus, buffer, len, &sent));
     if (done != NULL)
-        *done = sent;
+        *done = status == U16550_OK ? len : sent;
     return status;
 }
 
@@ -9109,16 +7695,15 @@ int u16550_set_fifo_size(struct u16550 *uart, uint16_t fifo_size)
 int u16550_character_clocks(const struct u16550_config *config, uint64_t *clocks)
 {
     struct u16550_core_config decoded;
-    struct uart_u64_or_invalid_divisor_error found;
+    uint64_t found_clocks = 0;
     int status = UART_USABLE(clocks, u64);
     if (status == U16550_OK)
         status = uart_decode_computable(config, &decoded);
     if (status != U16550_OK)
         return status;
-    found = uart_config_character_clocks(&decoded);
-    status = uart_status_of_invalid_divisor_error(&found.error);
+    status = uart_config_character_clocks(&decoded, &found_clocks);
     if (status == U16550_OK)
-        *clocks = found.value;
+        *clocks = found_clocks;
     return status;
 }
 
@@ -9127,7 +7712,7 @@ int u16550_handler_budget(const struct u16550_config *config, uint16_t fifo_size
 {
     struct u16550_core_config decoded;
     uint8_t size;
-    struct uart_maybe_u64_or_invalid_divisor_error found;
+    struct uart_maybe_u64 found_clocks = { false, 0 };
     int status = UART_USABLE(clocks, u64);
     if (status == U16550_OK)
         status = uart_decode_computable(config, &decoded);
@@ -9135,28 +7720,26 @@ int u16550_handler_budget(const struct u16550_config *config, uint16_t fifo_size
         status = uart_decode_fifo_size(fifo_size, &size);
     if (status != U16550_OK)
         return status;
-    found = uart_config_handler_budget(&decoded, size, access_clocks, before_clocks);
-    status = uart_status_of_invalid_divisor_error(&found.error);
+    status = uart_config_handler_budget(&decoded, size, access_clocks, before_clocks, &found_clocks);
     if (status == U16550_OK)
-        status = uart_unless(found.value.is_some, U16550_TIME_NOTHING_LEFT);
+        status = uart_unless(found_clocks.is_some, U16550_TIME_NOTHING_LEFT);
     if (status == U16550_OK)
-        *clocks = found.value.value;
+        *clocks = found_clocks.value;
     return status;
 }
 
 int u16550_characters_in(const struct u16550_config *config, uint64_t clocks, uint64_t *characters)
 {
     struct u16550_core_config decoded;
-    struct uart_u64_or_invalid_divisor_error found;
+    uint64_t found_characters = 0;
     int status = UART_USABLE(characters, u64);
     if (status == U16550_OK)
         status = uart_decode_computable(config, &decoded);
     if (status != U16550_OK)
         return status;
-    found = uart_config_characters_in(&decoded, clocks);
-    status = uart_status_of_invalid_divisor_error(&found.error);
+    status = uart_config_characters_in(&decoded, clocks, &found_characters);
     if (status == U16550_OK)
-        *characters = found.value;
+        *characters = found_characters;
     return status;
 }
 
@@ -9164,7 +7747,7 @@ int u16550_drain_clocks(const struct u16550_config *config, uint16_t fifo_size, 
 {
     struct u16550_core_config decoded;
     uint8_t size;
-    struct uart_u64_or_invalid_divisor_error found;
+    uint64_t found_clocks = 0;
     int status = UART_USABLE(clocks, u64);
     if (status == U16550_OK)
         status = uart_decode_computable(config, &decoded);
@@ -9172,26 +7755,24 @@ int u16550_drain_clocks(const struct u16550_config *config, uint16_t fifo_size, 
         status = uart_decode_fifo_size(fifo_size, &size);
     if (status != U16550_OK)
         return status;
-    found = uart_config_drain_clocks(&decoded, size);
-    status = uart_status_of_invalid_divisor_error(&found.error);
+    status = uart_config_drain_clocks(&decoded, size, &found_clocks);
     if (status == U16550_OK)
-        *clocks = found.value;
+        *clocks = found_clocks;
     return status;
 }
 
 int u16550_timeout_clocks(const struct u16550_config *config, uint64_t *clocks)
 {
     struct u16550_core_config decoded;
-    struct uart_u64_or_invalid_divisor_error found;
+    uint64_t found_clocks = 0;
     int status = UART_USABLE(clocks, u64);
     if (status == U16550_OK)
         status = uart_decode_computable(config, &decoded);
     if (status != U16550_OK)
         return status;
-    found = uart_config_timeout_clocks(&decoded);
-    status = uart_status_of_invalid_divisor_error(&found.error);
+    status = uart_config_timeout_clocks(&decoded, &found_clocks);
     if (status == U16550_OK)
-        *clocks = found.value;
+        *clocks = found_clocks;
     return status;
 }
 
@@ -9200,7 +7781,7 @@ int u16550_spin_limit_for(const struct u16550_config *config, uint16_t fifo_size
 {
     struct u16550_core_config decoded;
     uint8_t size;
-    struct uart_maybe_u64_or_invalid_divisor_error found;
+    struct uart_maybe_u64 found_limit = { false, 0 };
     int status = UART_USABLE(limit, u64);
     if (status == U16550_OK)
         status = uart_decode_computable(config, &decoded);
@@ -9208,12 +7789,11 @@ int u16550_spin_limit_for(const struct u16550_config *config, uint16_t fifo_size
         status = uart_decode_fifo_size(fifo_size, &size);
     if (status != U16550_OK)
         return status;
-    found = uart_config_spin_limit_for(&decoded, size, access_clocks);
-    status = uart_status_of_invalid_divisor_error(&found.error);
+    status = uart_config_spin_limit_for(&decoded, size, access_clocks, &found_limit);
     if (status == U16550_OK)
-        status = uart_unless(found.value.is_some, U16550_TIME_NO_LIMIT);
+        status = uart_unless(found_limit.is_some, U16550_TIME_NO_LIMIT);
     if (status == U16550_OK)
-        *limit = found.value.value;
+        *limit = found_limit.value;
     return status;
 }
 
@@ -9221,16 +7801,15 @@ int u16550_nanoseconds_within(const struct u16550_config *config, uint64_t clock
     uint64_t *nanoseconds)
 {
     struct u16550_core_config decoded;
-    struct uart_maybe_u64 found;
+    uint64_t found_nanoseconds = 0;
     int status = UART_USABLE(nanoseconds, u64);
     if (status == U16550_OK)
         status = uart_decode_computable(config, &decoded);
     if (status != U16550_OK)
         return status;
-    found = uart_config_nanoseconds_within(&decoded, clocks);
-    status = uart_unless(found.is_some, U16550_TIME_OUT_OF_RANGE);
+    status = uart_unless(uart_config_nanoseconds_within(&decoded, clocks, &found_nanoseconds), U16550_TIME_OUT_OF_RANGE);
     if (status == U16550_OK)
-        *nanoseconds = found.value;
+        *nanoseconds = found_nanoseconds;
     return status;
 }
 
@@ -9238,32 +7817,30 @@ int u16550_nanoseconds_covering(const struct u16550_config *config, uint64_t clo
     uint64_t *nanoseconds)
 {
     struct u16550_core_config decoded;
-    struct uart_maybe_u64 found;
+    uint64_t found_nanoseconds = 0;
     int status = UART_USABLE(nanoseconds, u64);
     if (status == U16550_OK)
         status = uart_decode_computable(config, &decoded);
     if (status != U16550_OK)
         return status;
-    found = uart_config_nanoseconds_covering(&decoded, clocks);
-    status = uart_unless(found.is_some, U16550_TIME_OUT_OF_RANGE);
+    status = uart_unless(uart_config_nanoseconds_covering(&decoded, clocks, &found_nanoseconds), U16550_TIME_OUT_OF_RANGE);
     if (status == U16550_OK)
-        *nanoseconds = found.value;
+        *nanoseconds = found_nanoseconds;
     return status;
 }
 
 int u16550_clocks_within(const struct u16550_config *config, uint64_t nanoseconds, uint64_t *clocks)
 {
     struct u16550_core_config decoded;
-    struct uart_maybe_u64 found;
+    uint64_t found_clocks = 0;
     int status = UART_USABLE(clocks, u64);
     if (status == U16550_OK)
         status = uart_decode_computable(config, &decoded);
     if (status != U16550_OK)
         return status;
-    found = uart_config_clocks_within(&decoded, nanoseconds);
-    status = uart_unless(found.is_some, U16550_TIME_OUT_OF_RANGE);
+    status = uart_unless(uart_config_clocks_within(&decoded, nanoseconds, &found_clocks), U16550_TIME_OUT_OF_RANGE);
     if (status == U16550_OK)
-        *clocks = found.value;
+        *clocks = found_clocks;
     return status;
 }
 
@@ -9271,16 +7848,15 @@ int u16550_clocks_covering(const struct u16550_config *config, uint64_t nanoseco
     uint64_t *clocks)
 {
     struct u16550_core_config decoded;
-    struct uart_maybe_u64 found;
+    uint64_t found_clocks = 0;
     int status = UART_USABLE(clocks, u64);
     if (status == U16550_OK)
         status = uart_decode_computable(config, &decoded);
     if (status != U16550_OK)
         return status;
-    found = uart_config_clocks_covering(&decoded, nanoseconds);
-    status = uart_unless(found.is_some, U16550_TIME_OUT_OF_RANGE);
+    status = uart_unless(uart_config_clocks_covering(&decoded, nanoseconds, &found_clocks), U16550_TIME_OUT_OF_RANGE);
     if (status == U16550_OK)
-        *clocks = found.value;
+        *clocks = found_clocks;
     return status;
 }
 #endif
@@ -9302,15 +7878,14 @@ int u16550_check_present(struct u16550 *uart, uint8_t *present)
 int u16550_init(struct u16550 *uart, const struct u16550_config *config)
 {
     struct u16550_core_config decoded;
-    struct uart_init_error error;
     int status = uart_enter(uart);
     if (status != U16550_OK)
         return status;
     status = uart_decode_computable(config, &decoded);
     if (status != U16550_OK)
         return uart_leave(uart, status);
-    error = uart_init(&uart->ring.uart, decoded);
-    return uart_leave(uart, uart_status_of_init_error(&error));
+    status = uart_init(&uart->ring.uart, decoded);
+    return uart_leave(uart, status);
 }
 
 int u16550_init_with(struct u16550 *uart, const struct u16550_config *config,
@@ -9318,7 +7893,6 @@ int u16550_init_with(struct u16550 *uart, const struct u16550_config *config,
 {
     struct u16550_core_config decoded;
     struct uart_setup setup_of;
-    struct uart_init_error error;
     int status = uart_enter(uart);
     if (status != U16550_OK)
         return status;
@@ -9327,76 +7901,73 @@ int u16550_init_with(struct u16550 *uart, const struct u16550_config *config,
         status = uart_decode_setup(setup, &setup_of);
     if (status != U16550_OK)
         return uart_leave(uart, status);
-    error = uart_init_with(&uart->ring.uart, decoded, &setup_of);
-    return uart_leave(uart, uart_status_of_init_error(&error));
+    status = uart_init_with(&uart->ring.uart, decoded, &setup_of);
+    return uart_leave(uart, status);
 }
 
 int u16550_find_fifo_size(struct u16550 *uart, uint16_t *fifo_size)
 {
-    struct uart_fifo_size_or_fifo_size_error found;
+    uint8_t size;
     int status = uart_if(fifo_size == NULL, U16550_NULL_POINTER);
     if (status == U16550_OK)
         status = uart_enter(uart);
     if (status != U16550_OK)
         return status;
-    found = uart_find_fifo_size(&uart->ring.uart);
-    status = uart_leave(uart, uart_status_of_fifo_size_error(&found.error));
+    status = uart_find_fifo_size(&uart->ring.uart, &size);
+    status = uart_leave(uart, status);
     if (status == U16550_OK)
-        *fifo_size = uart_encode_fifo_size(found.value);
+        *fifo_size = uart_encode_fifo_size(size);
     return status;
 }
 
 int u16550_enable_64_byte_fifos(struct u16550 *uart, uint8_t *enabled)
 {
-    struct uart_bool_or_fifo_size_error found;
+    bool found_enabled;
     int status = uart_if(enabled == NULL, U16550_NULL_POINTER);
     if (status == U16550_OK)
         status = uart_enter(uart);
     if (status != U16550_OK)
         return status;
-    found = uart_enable_64_byte_fifos(&uart->ring.uart);
-    status = uart_leave(uart, uart_status_of_fifo_size_error(&found.error));
+    status = uart_enable_64_byte_fifos(&uart->ring.uart, &found_enabled);
+    status = uart_leave(uart, status);
     if (status == U16550_OK)
-        *enabled = found.value;
+        *enabled = found_enabled;
     return status;
 }
 
 int u16550_check_connected(struct u16550 *uart)
 {
-    enum uart_remote_ready_to_receive_error error;
     int status = uart_enter(uart);
     if (status != U16550_OK)
         return status;
-    error = uart_check_connected(&uart->ring.uart);
-    return uart_leave(uart, uart_status_of_remote_ready_to_receive_error(&error));
+    status = uart_check_connected(&uart->ring.uart);
+    return uart_leave(uart, status);
 }
 
 int u16550_set_frame(struct u16550 *uart, const struct u16550_config *config)
 {
     struct u16550_core_config decoded;
-    struct uart_invalid_divisor_error error;
     int status = uart_enter(uart);
     if (status != U16550_OK)
         return status;
     status = uart_decode_computable(config, &decoded);
     if (status != U16550_OK)
         return uart_leave(uart, status);
-    error = uart_set_frame(&uart->ring.uart, &decoded);
-    return uart_leave(uart, uart_status_of_invalid_divisor_error(&error));
+    status = uart_set_frame(&uart->ring.uart, &decoded);
+    return uart_leave(uart, status);
 }
 
 int u16550_set_frame_when_idle(struct u16550 *uart, const struct u16550_config *config)
 {
     struct u16550_core_config decoded;
-    struct uart_frame_error error;
     int status = uart_enter(uart);
     if (status != U16550_OK)
         return status;
     status = uart_decode_computable(config, &decoded);
     if (status != U16550_OK)
         return uart_leave(uart, status);
-    error = uart_set_frame_when_idle(&uart->ring.uart, &decoded);
-    return uart_leave(uart, uart_status_of_frame_error(&error));
+    status = uart_set_frame_when_idle(&uart->ring.uart, &decoded);
+    return uart_leave(uart, status);
 }
 
 int u16550_set_trigger_level(struct u16550 *uart, uint8_t characters)
@@ -9414,14 +7985,13 @@ int u16550_set_trigger_level(struct u16550 *uart, uint8_t characters)
 
 int u16550_quiesce(struct u16550 *uart, uint8_t outputs, uint8_t fifos)
 {
-    enum uart_fifo_action action;
     int status = uart_enter(uart);
     if (status != U16550_OK)
         return status;
-    status = uart_decode_fifo_action(fifos, &action);
+    status = uart_check_fifo_action(fifos);
     if (status != U16550_OK)
         return uart_leave(uart, status);
-    uart_quiesce(&uart->ring.uart, outputs, action);
+    uart_quiesce(&uart->ring.uart, outputs, fifos);
     return uart_leave(uart, U16550_OK);
 }
 
@@ -9439,15 +8009,15 @@ int u16550_restore(struct u16550 *uart, const struct u16550_dump *dump)
 
 int u16550_attach(struct u16550 *uart, uint8_t *dll, uint8_t *dlm)
 {
-    struct uart_pair_of_u8_or_attach_error found;
+    struct uart_latch latch;
     int status = dll == NULL || dlm == NULL ? U16550_NULL_POINTER : uart_enter(uart);
     if (status != U16550_OK)
         return status;
-    found = uart_attach(&uart->ring.uart);
-    status = uart_leave(uart, uart_status_of_attach_error(&found.error));
+    status = uart_attach(&uart->ring.uart, &latch);
+    status = uart_leave(uart, status);
     if (status == U16550_OK) {
-        *dll = found.value.first;
-        *dlm = found.value.second;
+        *dll = latch.dll;
+        *dlm = latch.dlm;
     }
     return status;
 }
@@ -9508,37 +8078,35 @@ int u16550_ready_to_receive(struct u16550 *uart)
 
 int u16550_ready_to_send(struct u16550 *uart)
 {
-    enum uart_byte_send_error error;
     int status = uart_enter(uart);
     if (status != U16550_OK)
         return status;
-    error = uart_ready_to_send(&uart->ring.uart);
-    return uart_leave(uart, uart_status_of_byte_send_error(&error));
+    status = uart_ready_to_send(&uart->ring.uart);
+    return uart_leave(uart, status);
 }
 
 int u16550_try_receive_byte(struct u16550 *uart, uint8_t *byte)
 {
-    struct u16550_core_maybe_u8 found;
+    uint8_t found_byte;
     int status = uart_if(byte == NULL, U16550_NULL_POINTER);
     if (status == U16550_OK)
         status = uart_enter(uart);
     if (status != U16550_OK)
         return status;
-    found = uart_try_receive_byte(&uart->ring.uart);
-    status = uart_leave(uart, uart_unless(found.is_some, U16550_RECEIVE_NO_DATA));
+    status = uart_unless(uart_try_receive_byte(&uart->ring.uart, &found_byte), U16550_RECEIVE_NO_DATA);
+    status = uart_leave(uart, status);
     if (status == U16550_OK)
-        *byte = found.value;
+        *byte = found_byte;
     return status;
 }
 
 int u16550_try_send_byte(struct u16550 *uart, uint8_t byte)
 {
-    enum uart_byte_send_error error;
     int status = uart_enter(uart);
     if (status != U16550_OK)
         return status;
-    error = uart_try_send_byte(&uart->ring.uart, byte);
-    return uart_leave(uart, uart_status_of_byte_send_error(&error));
+    status = uart_try_send_byte(&uart->ring.uart, byte);
+    return uart_leave(uart, status);
 }
 
 int u16550_receive_bytes(struct u16550 *uart, uint8_t *buffer, size_t len, size_t *count)
@@ -9621,16 +8189,16 @@ int u16550_send_gathered(struct u16550 *uart, const uint8_t *urgent, const uint8
 
 int u16550_try_receive_with_errors(struct u16550 *uart, struct u16550_received *received)
 {
-    struct uart_maybe_received found;
+    struct u16550_received found_received;
     int status = uart_if(received == NULL, U16550_NULL_POINTER);
     if (status == U16550_OK)
         status = uart_enter(uart);
     if (status != U16550_OK)
         return status;
-    found = uart_try_receive_with_errors(&uart->ring.uart);
-    status = uart_leave(uart, uart_unless(found.is_some, U16550_RECEIVE_NO_DATA));
+    status = uart_unless(uart_try_receive_with_errors(&uart->ring.uart, &found_received), U16550_RECEIVE_NO_DATA);
+    status = uart_leave(uart, status);
     if (status == U16550_OK)
-        *received = found.value;
+        *received = found_received;
     return status;
 }
 
@@ -9654,7 +8222,7 @@ int u16550_receive_with_errors(struct u16550 *uart, struct u16550_received *rece
 
 int u16550_receive_bytes_exact(struct u16550 *uart, uint8_t *buffer, size_t len, size_t *done)
 {
-    struct uart_maybe_stalled_error stalled;
+    size_t stalled_at;
     int status = UART_ALIGNED(done, size);
     if (status == U16550_OK)
         status = uart_enter(uart);
@@ -9663,16 +8231,16 @@ int u16550_receive_bytes_exact(struct u16550 *uart, uint8_t *buffer, size_t len,
     status = uart_array(buffer, len, 1, 1);
     if (status != U16550_OK)
         return uart_leave(uart, status);
-    stalled = uart_receive_bytes_exact(&uart->ring.uart, buffer, len);
-    status = uart_leave(uart, uart_if(stalled.is_error, U16550_STALLED));
+    status = uart_receive_bytes_exact(&uart->ring.uart, buffer, len, &stalled_at);
+    status = uart_leave(uart, status);
     if (done != NULL)
-        *done = stalled.is_error ? stalled.error : len;
+        *done = status == U16550_OK ? len : stalled_at;
     return status;
 }
 
 int u16550_send_bytes_exact(struct u16550 *uart, const uint8_t *buffer, size_t len, size_t *done)
 {
-    struct uart_maybe_stalled_error stalled;
+    size_t stalled_at;
     int status = UART_ALIGNED(done, size);
     if (status == U16550_OK)
         status = uart_enter(uart);
@@ -9681,10 +8249,10 @@ int u16550_send_bytes_exact(struct u16550 *uart, const uint8_t *buffer, size_t l
     status = uart_array(buffer, len, 1, 1);
     if (status != U16550_OK)
         return uart_leave(uart, status);
-    stalled = uart_send_bytes_exact(&uart->ring.uart, buffer, len);
-    status = uart_leave(uart, uart_if(stalled.is_error, U16550_STALLED));
+    status = uart_send_bytes_exact(&uart->ring.uart, buffer, len, &stalled_at);
+    status = uart_leave(uart, status);
     if (done != NULL)
-        *done = stalled.is_error ? stalled.error : len;
+        *done = status == U16550_OK ? len : stalled_at;
     return status;
 }
 
@@ -9692,7 +8260,7 @@ int u16550_receive_bytes_while(struct u16550 *uart, uint8_t *buffer, size_t len,
     uint8_t (*keep_waiting)(void *context), void *context, size_t *done)
 {
     struct uart_patience patience = { keep_waiting, context };
-    struct uart_maybe_stalled_error stalled;
+    size_t stalled_at;
     int status = UART_ALIGNED(done, size);
     if (status == U16550_OK)
         status = uart_enter(uart);
@@ -9703,10 +8271,10 @@ int u16550_receive_bytes_while(struct u16550 *uart, uint8_t *buffer, size_t len,
         status = uart_if(keep_waiting == NULL, U16550_NULL_POINTER);
     if (status != U16550_OK)
         return uart_leave(uart, status);
-    stalled = uart_receive_bytes_while(&uart->ring.uart, buffer, len, &patience);
-    status = uart_leave(uart, uart_if(stalled.is_error, U16550_STALLED));
+    status = uart_receive_bytes_while(&uart->ring.uart, buffer, len, &patience, &stalled_at);
+    status = uart_leave(uart, status);
     if (done != NULL)
-        *done = stalled.is_error ? stalled.error : len;
+        *done = status == U16550_OK ? len : stalled_at;
     return status;
 }
 
@@ -9714,7 +8282,7 @@ int u16550_send_bytes_while(struct u16550 *uart, const uint8_t *buffer, size_t l
     uint8_t (*keep_waiting)(void *context), void *context, size_t *done)
 {
     struct uart_patience patience = { keep_waiting, context };
-    struct uart_maybe_stalled_error stalled;
+    size_t stalled_at;
     int status = UART_ALIGNED(done, size);
     if (status == U16550_OK)
         status = uart_enter(uart);
@@ -9725,29 +8293,31 @@ int u16550_send_bytes_while(struct u16550 *uart, const uint8_t *buffer, size_t l
         status = uart_if(keep_waiting == NULL, U16550_NULL_POINTER);
     if (status != U16550_OK)
         return uart_leave(uart, status);
-    stalled = uart_send_bytes_while(&uart->ring.uart, buffer, len, &patience);
-    status = uart_leave(uart, uart_if(stalled.is_error, U16550_STALLED));
+    status = uart_send_bytes_while(&uart->ring.uart, buffer, len, &patience, &stalled_at);
+    status = uart_leave(uart, status);
     if (done != NULL)
-        *done = stalled.is_error ? stalled.error : len;
+        *done = status == U16550_OK ? len : stalled_at;
     return status;
 }
 
 int u16550_flush_while(struct u16550 *uart, uint8_t (*keep_waiting)(void *context), void *context)
 {
     struct uart_patience patience = { keep_waiting, context };
+    size_t stalled_at;
     int status = uart_enter(uart);
     if (status != U16550_OK)
         return status;
     status = uart_if(keep_waiting == NULL, U16550_NULL_POINTER);
     if (status != U16550_OK)
         return uart_leave(uart, status);
-    status = uart_if(uart_flush_while(&uart->ring.uart, &patience).is_error, U16550_STALLED);
+    status = uart_flush_while(&uart->ring.uart, &patience, &stalled_at);
     return uart_leave(uart, status);
 }
 
 int u16550_read(struct u16550 *uart, uint8_t *buffer, size_t len, size_t *count)
 {
-    struct uart_u64_or_stalled_error some;
+    size_t found_count;
+    size_t stalled_at;
     int status = UART_USABLE(count, size);
     if (status == U16550_OK)
         status = uart_enter(uart);
@@ -9756,16 +8326,17 @@ int u16550_read(struct u16550 *uart, uint8_t *buffer, size_t len, size_t *count)
     status = uart_array(buffer, len, 1, 1);
     if (status != U16550_OK)
         return uart_leave(uart, status);
-    some = uart_read(&uart->ring.uart, buffer, len);
-    status = uart_leave(uart, uart_if(some.is_error, U16550_STALLED));
+    status = uart_read(&uart->ring.uart, buffer, len, &found_count, &stalled_at);
+    status = uart_leave(uart, status);
     if (status == U16550_OK)
-        *count = (size_t)some.value;
+        *count = found_count;
     return status;
 }
 
 int u16550_write(struct u16550 *uart, const uint8_t *buffer, size_t len, size_t *count)
 {
-    struct uart_u64_or_stalled_error some;
+    size_t found_count;
+    size_t stalled_at;
     int status = UART_USABLE(count, size);
     if (status == U16550_OK)
         status = uart_enter(uart);
@@ -9774,49 +8345,52 @@ int u16550_write(struct u16550 *uart, const uint8_t *buffer, size_t len, size_t 
     status = uart_array(buffer, len, 1, 1);
     if (status != U16550_OK)
         return uart_leave(uart, status);
-    some = uart_write(&uart->ring.uart, buffer, len);
-    status = uart_leave(uart, uart_if(some.is_error, U16550_STALLED));
+    status = uart_write(&uart->ring.uart, buffer, len, &found_count, &stalled_at);
+    status = uart_leave(uart, status);
     if (status == U16550_OK)
-        *count = (size_t)some.value;
+        *count = found_count;
     return status;
 }
 
 int u16550_flush(struct u16550 *uart)
 {
+    size_t stalled_at;
     int status = uart_enter(uart);
     if (status != U16550_OK)
         return status;
-    status = uart_if(uart_flush(&uart->ring.uart).is_error, U16550_STALLED);
+    status = uart_flush(&uart->ring.uart, &stalled_at);
     return uart_leave(uart, status);
 }
 
 int u16550_read_ready(struct u16550 *uart, uint8_t *ready)
 {
-    struct uart_bool_or_stalled_error some;
+    bool found_ready;
+    size_t stalled_at;
     int status = uart_if(ready == NULL, U16550_NULL_POINTER);
     if (status == U16550_OK)
         status = uart_enter(uart);
     if (status != U16550_OK)
         return status;
-    some = uart_read_ready(&uart->ring.uart);
-    status = uart_leave(uart, uart_if(some.is_error, U16550_STALLED));
+    status = uart_read_ready(&uart->ring.uart, &found_ready, &stalled_at);
+    status = uart_leave(uart, status);
     if (status == U16550_OK)
-        *ready = some.value;
+        *ready = found_ready;
     return status;
 }
 
 int u16550_write_ready(struct u16550 *uart, uint8_t *ready)
 {
-    struct uart_bool_or_stalled_error some;
+    bool found_ready;
+    size_t stalled_at;
     int status = uart_if(ready == NULL, U16550_NULL_POINTER);
     if (status == U16550_OK)
         status = uart_enter(uart);
     if (status != U16550_OK)
         return status;
-    some = uart_write_ready(&uart->ring.uart);
-    status = uart_leave(uart, uart_if(some.is_error, U16550_STALLED));
+    status = uart_write_ready(&uart->ring.uart, &found_ready, &stalled_at);
+    status = uart_leave(uart, status);
     if (status == U16550_OK)
-        *ready = some.value;
+        *ready = found_ready;
     return status;
 }
 
@@ -9948,15 +8522,15 @@ int u16550_spr(struct u16550 *uart, uint8_t *value)
 
 int u16550_dll_dlm(struct u16550 *uart, uint8_t *dll, uint8_t *dlm)
 {
-    struct uart_pair_of_u8 found;
+    struct uart_latch found;
     int status = dll == NULL || dlm == NULL ? U16550_NULL_POINTER : uart_enter(uart);
     if (status != U16550_OK)
         return status;
     found = uart_dll_dlm(&uart->ring.uart);
     status = uart_leave(uart, U16550_OK);
     if (status == U16550_OK) {
-        *dll = found.first;
-        *dlm = found.second;
+        *dll = found.dll;
+        *dlm = found.dlm;
     }
     return status;
 }
@@ -10124,13 +8698,15 @@ int u16550_ring_is_held(struct u16550 *uart, uint8_t *held)
 
 int u16550_ring_queue_urgent(struct u16550 *uart, uint8_t byte, struct u16550_urgent *replaced)
 {
-    struct u16550_urgent found;
+    struct u16550_urgent found = { 0, 0 };
     int status = uart_if(replaced == NULL, U16550_NULL_POINTER);
     if (status == U16550_OK)
         status = uart_enter_rings(uart);
     if (status != U16550_OK)
         return status;
-    found = uart_encode_urgent(uart_ring_queue_urgent(&uart->ring, byte));
+    found.waits = uart_ring_queue_urgent(&uart->ring, byte, &found.byte);
+    if (!found.waits)
+        found.byte = 0;
     uart_leave(uart, U16550_OK);
     *replaced = found;
     return U16550_OK;
@@ -10138,13 +8714,15 @@ int u16550_ring_queue_urgent(struct u16550 *uart, uint8_t byte, struct u16550_ur
 
 int u16550_ring_urgent(struct u16550 *uart, struct u16550_urgent *urgent)
 {
-    struct u16550_urgent found;
+    struct u16550_urgent found = { 0, 0 };
     int status = uart_if(urgent == NULL, U16550_NULL_POINTER);
     if (status == U16550_OK)
         status = uart_enter_rings(uart);
     if (status != U16550_OK)
         return status;
-    found = uart_encode_urgent(uart_ring_urgent(&uart->ring));
+    found.waits = uart_ring_urgent(&uart->ring, &found.byte);
+    if (!found.waits)
+        found.byte = 0;
     uart_leave(uart, U16550_OK);
     *urgent = found;
     return U16550_OK;
@@ -10230,13 +8808,15 @@ int u16550_ring_adjust_rts(struct u16550 *uart, size_t hold, size_t release)
 int u16550_ring_adjust_xoff(struct u16550 *uart, size_t hold, size_t release,
     struct u16550_urgent *told)
 {
-    struct u16550_urgent found;
+    struct u16550_urgent found = { 0, 0 };
     int status = uart_if(told == NULL, U16550_NULL_POINTER);
     if (status == U16550_OK)
         status = uart_enter_rings(uart);
     if (status != U16550_OK)
         return status;
-    found = uart_encode_urgent(uart_ring_adjust_xoff(&uart->ring, uart_marks(hold, release)));
+    found.waits = uart_ring_adjust_xoff(&uart->ring, uart_marks(hold, release), &found.byte);
+    if (!found.waits)
+        found.byte = 0;
     uart_leave(uart, U16550_OK);
     *told = found;
     return U16550_OK;
@@ -10244,13 +8824,15 @@ int u16550_ring_adjust_xoff(struct u16550 *uart, size_t hold, size_t release,
 
 int u16550_ring_obey_xoff(struct u16550 *uart, struct u16550_urgent *told)
 {
-    struct u16550_urgent found;
+    struct u16550_urgent found = { 0, 0 };
     int status = uart_if(told == NULL, U16550_NULL_POINTER);
     if (status == U16550_OK)
         status = uart_enter_rings(uart);
     if (status != U16550_OK)
         return status;
-    found = uart_encode_urgent(uart_ring_obey_xoff(&uart->ring));
+    found.waits = uart_ring_obey_xoff(&uart->ring, &found.byte);
+    if (!found.waits)
+        found.byte = 0;
     uart_leave(uart, U16550_OK);
     *told = found;
     return U16550_OK;
@@ -10273,7 +8855,7 @@ int u16550_ring_handle(struct u16550 *uart, size_t limit, struct u16550_handled 
         status = uart_enter_rings(uart);
     if (status != U16550_OK)
         return status;
-    found = uart_encode_handled(uart_ring_handle(&uart->ring, limit));
+    found = uart_ring_handle(&uart->ring, limit);
     uart_leave(uart, U16550_OK);
     *handled = found;
     return U16550_OK;
@@ -10282,16 +8864,17 @@ int u16550_ring_handle(struct u16550 *uart, size_t limit, struct u16550_handled 
 int u16550_ring_try_handle(struct u16550 *uart, size_t limit, uint32_t rounds,
     struct u16550_handled *handled)
 {
-    struct uart_handled_or_stuck_error found;
+    struct u16550_handled found_handled;
+    struct u16550_core_stuck_error error;
     int status = UART_USABLE(handled, handled);
     if (status == U16550_OK)
         status = uart_enter_rings(uart);
     if (status != U16550_OK)
         return status;
-    found = uart_ring_try_handle(&uart->ring, limit, rounds);
-    status = uart_leave(uart, uart_status_of_stuck_error(&found.error));
+    status = uart_ring_try_handle(&uart->ring, limit, rounds, &found_handled, &error);
+    status = uart_leave(uart, status);
     if (status == U16550_OK)
-        *handled = uart_encode_handled(found.value);
+        *handled = found_handled;
     return status;
 }
 

@@ -421,8 +421,8 @@ enum u16550_core_baud_rate_kind {
  * A baud rate, in bits per second.
  *
  * Baud rates are ordered by their number. If two have the same number, the one with a name comes
- * before Custom. So Baud9600 and Custom(9600) are different values; from_integer returns
- * the one with a name.
+ * before Custom. So Baud9600 and Custom(9600) are different values; uart_baud_rate_from_bps
+ * returns the one with a name.
  */
 struct u16550_core_baud_rate {
     uint8_t kind; /* an enum u16550_core_baud_rate_kind */
@@ -437,21 +437,12 @@ enum u16550_core_word_length {
     U16550_CORE_WORD_LENGTH_EIGHT_BITS = 3
 };
 
-/* The parity bit that follows the data bits of a character. */
-enum u16550_core_parity {
-    U16550_CORE_PARITY_DISABLED = 0,
-    U16550_CORE_PARITY_ODD = 1,
-    U16550_CORE_PARITY_EVEN = 2,
-    U16550_CORE_PARITY_FORCED1 = 3,
-    U16550_CORE_PARITY_FORCED0 = 4
-};
-
 /*
  * The configuration of a device: clock and baud rate, the format of a character, FIFOs and
  * interrupts.
  *
- * Pass it to Uart16550_init, which requires that it is computable (Config_is_computable).
- * Start from Config_DEFAULT, and set what differs.
+ * Pass it to u16550_init, which requires that it is computable (uart_config_is_computable). Start
+ * from that of u16550_default_config, and set what differs.
  */
 struct u16550_core_config {
     uint8_t interrupts;
@@ -461,18 +452,17 @@ struct u16550_core_config {
     struct u16550_core_baud_rate baud_rate;
     uint8_t data_bits; /* an enum u16550_core_word_length */
     uint8_t extra_stop_bits;
-    uint8_t parity; /* an enum u16550_core_parity */
+    uint8_t parity; /* an enum u16550_parity */
     uint8_t check_cts_before_sending;
 };
 
 /*
- * How many characters each FIFO of a chip holds, for Uart16550_set_fifo_size, by which all
- * calls that send and the rings go, and for one Uart16550_send_burst.
+ * How many characters each FIFO of a chip holds, for u16550_set_fifo_size, by which all calls that
+ * send and the rings go, and for one u16550_send_burst.
  *
  * A 16550 has 16. No register that all chips have shows the size, so it is taken from the
- * datasheet, or Uart16550_find_fifo_size finds it. A 16750 has 64 after
- * Uart16550_enable_64_byte_fifos. If a size is given that is larger than the chip's, bytes are
- * lost.
+ * datasheet, or u16550_find_fifo_size finds it. A 16750 has 64 after u16550_enable_64_byte_fifos.
+ * If a size is given that is larger than the chip's, bytes are lost.
  */
 enum u16550_core_fifo_size {
     U16550_CORE_FIFO_SIZE_SIXTEEN = 0,
@@ -485,19 +475,20 @@ enum u16550_core_fifo_size {
 /*
  * A driver for one serial chip of the 16550 family, over any backend.
  *
- * Construct it with new_port, new_mmio or new_with_backend, and call init before any other
- * call, or attach on a port that is set up already. test_loopback then tests whether the chip
- * works, and check_connected whether a remote is ready.
+ * Construct it with u16550_new_port, u16550_new_mmio or u16550_new, and call u16550_init before
+ * any other call, or u16550_attach on a port that is set up already. u16550_test_loopback then
+ * tests whether the chip works, and u16550_check_connected whether a remote is ready.
  *
- * No call blocks forever. init, init_with, test_loopback, find_fifo_size,
- * enable_64_byte_fifos, set_frame_when_idle, send_bytes_exact, receive_bytes_exact, and
- * the calls read, write and flush of the traits in embedded_io poll
- * LSR, and return an error after spin_limit unsuccessful polls in a row. The other calls do not
- * wait.
+ * No call blocks forever. u16550_init, u16550_init_with, u16550_test_loopback,
+ * u16550_find_fifo_size, u16550_enable_64_byte_fifos, u16550_set_frame_when_idle,
+ * u16550_send_bytes_exact, u16550_receive_bytes_exact, and the calls u16550_read, u16550_write and
+ * u16550_flush poll LSR, and return an error after spin_limit unsuccessful polls in a row. The
+ * other calls do not wait.
  *
  * A read of LSR clears its error bits in the chip, and a read of MSR its change bits. The driver
- * saves those that its own reads clear, and the next lsr or msr returns them. So a poll loses
- * no error and no change. init, the loopback test and find_fifo_size discard some.
+ * saves those that its own reads clear, and the next u16550_lsr or u16550_msr returns them. So a
+ * poll loses no error and no change. u16550_init, the loopback test and u16550_find_fifo_size
+ * discard some.
  */
 struct u16550_core_driver {
     struct u16550_device backend;
@@ -519,24 +510,18 @@ struct u16550_core_received_64 {
 };
 
 /*
- * Characters in the order in which they were received.
- * The first one is in the first cell. Taking it moves the others up, which costs 64 cells. Only a
- * character that came in the course of a write of LCR is ever kept.
+ * Characters in the order in which they were received. The first one is in the first cell. Taking
+ * it moves the others up, which costs 64 cells. Only a character that came in the course of a
+ * write of LCR is ever kept.
  */
 struct u16550_core_kept_characters {
     struct u16550_core_received_64 cells;
     size_t count;
 };
 
-/* What a DesignWare UART did that this backend could not mend. */
-enum u16550_core_design_ware_fault {
-    U16550_CORE_DESIGN_WARE_FAULT_LINE_CONTROL_IGNORED = 0,
-    U16550_CORE_DESIGN_WARE_FAULT_INTERRUPT_WITHOUT_END = 1
-};
-
 struct u16550_core_maybe_design_ware_fault {
     uint8_t is_some;
-    uint8_t value; /* an enum u16550_core_design_ware_fault */
+    uint8_t value; /* an enum u16550_design_ware_fault */
 };
 
 /*
@@ -556,12 +541,12 @@ struct u16550_core_maybe_design_ware_fault {
  *   while LSR shows neither data nor a break, reads RBR once, which ends it. A character that
  *   comes between these two accesses is lost. Linux does the same.
  *
- * No wait is longer than patience. After a fault the chip's interrupts are off,
+ * No wait is longer than patience. After a u16550_design_ware_fault the chip's interrupts are off,
  * whatever the driver writes to IER; only if DLAB could not be cleared, IER is out of reach and
  * stays as it was. While the chip has DLAB otherwise than the driver takes it to have, nothing
  * reaches offsets 0 and 1. So no divisor goes to the line. All that is over with the next write of
- * LCR that the chip takes, as by an init. The driver's calls return no error for a fault:
- * check_configured does, and fault says why.
+ * LCR that the chip takes, as by an u16550_init. The driver's calls return no error for a fault:
+ * u16550_check_configured does, and u16550_design_ware_fault says why.
  */
 struct u16550_core_design_ware {
     struct u16550_device registers;
@@ -588,8 +573,7 @@ struct u16550_core_byte_queue {
 };
 
 /*
- * A backend that notes the errors of each received byte, for
- * Uart16550Ring_take_with_errors.
+ * A backend that notes the errors of each received byte, for u16550_ring_take_with_errors.
  *
  * It makes each access that it is asked for over the backend under it, and no other. Rings without
  * it cost what they cost before; with it they take one byte of memory more for each byte of the
@@ -597,9 +581,9 @@ struct u16550_core_byte_queue {
  *
  * LSR shows the errors of the character that is the next to be read, once, to whoever looks: to
  * the handler that serves a line status interrupt, to a pump that looks for room, to a
- * take_line. So the errors of a byte are all that LSR has shown since the byte before it was
- * read, and this backend sees each look. Only an overrun that the first look shows, since the
- * notes were made or the receiver was reset, is of no byte: it may be of before.
+ * u16550_ring_take_line. So the errors of a byte are all that LSR has shown since the byte before
+ * it was read, and this backend sees each look. Only an overrun that the first look shows, since
+ * the notes were made or the receiver was reset, is of no byte: it may be of before.
  */
 struct u16550_core_error_notes {
     struct u16550_device backend;
@@ -607,12 +591,6 @@ struct u16550_core_error_notes {
     uint8_t shown;
     uint8_t is_latch;
     uint8_t is_overrun_old;
-};
-
-enum u16550_core_stuck_error_kind {
-    U16550_CORE_STUCK_ERROR_NONE = 0,
-    U16550_CORE_STUCK_ERROR_UNKNOWN = 1,
-    U16550_CORE_STUCK_ERROR_PENDING = 2
 };
 
 /* An interrupt, in the order in which a chip reports interrupts that are pending together. */
@@ -628,7 +606,7 @@ enum u16550_core_interrupt_type {
 
 /* Why a chip is stuck: what ISR still showed after as many rounds as the caller allows. */
 struct u16550_core_stuck_error {
-    uint8_t kind; /* an enum u16550_core_stuck_error_kind */
+    int kind;
     uint8_t unknown;
     uint8_t pending; /* an enum u16550_core_interrupt_type */
 };
@@ -641,13 +619,13 @@ struct u16550_core_maybe_stuck_error {
 /*
  * A driver with a ring for bytes that are to be sent, and a ring for received bytes.
  *
- * Initialise the driver through inner_mut, with DATA_READY, RECEIVER_LINE_STATUS and
- * MODEM_STATUS enabled and without THR_EMPTY, which the rings enable as long as there are
- * bytes to send. Call handle or try_handle in the interrupt handler. Mask the interrupt during
+ * Initialise the driver, with DATA_READY, RECEIVER_LINE_STATUS and MODEM_STATUS enabled and
+ * without THR_EMPTY, which the rings enable as long as there are bytes to send. Call
+ * u16550_ring_handle or u16550_ring_try_handle in the interrupt handler. Mask the interrupt during
  * all other calls, since the handler must not run in the middle of one.
  *
  * For a chip whose FIFOs hold more than 16 characters set their size in the driver, by
- * set_fifo_size, before or through inner_mut: an interrupt then sends or receives as many.
+ * u16550_set_fifo_size, before: an interrupt then sends or receives as many.
  *
  * No call waits, so none returns a stall.
  */
@@ -668,12 +646,6 @@ struct u16550_core_ring {
     struct u16550_core_maybe_stuck_error stuck;
 };
 
-/* The output of the chip that switches the transceiver. */
-enum u16550_core_direction_line {
-    U16550_CORE_DIRECTION_LINE_RTS = 0,
-    U16550_CORE_DIRECTION_LINE_DTR = 1
-};
-
 /*
  * How the transceiver is switched between its two directions.
  *
@@ -682,38 +654,40 @@ enum u16550_core_direction_line {
  * bit is clear. With an inverter between them it sends while the bit is set.
  */
 struct u16550_core_direction {
-    uint8_t line; /* an enum u16550_core_direction_line */
+    uint8_t line; /* an enum u16550_direction_line */
     uint8_t sends_when_set;
 };
 
 /*
  * A driver at a bus on which one end at a time may send, as RS-485 with two wires.
  *
- * start_sending switches the transceiver to send, and try_finish gives the bus back once the
- * transmitter is empty. While the direction is not to send, send_bytes and send_bytes_exact
- * write nothing and return an error. No call writes a byte or switches the direction otherwise,
- * in whatever order they are made: that is proved.
+ * u16550_bus_start_sending switches the transceiver to send, and u16550_bus_try_finish gives the
+ * bus back once the transmitter is empty. While the direction is not to send,
+ * u16550_bus_send_bytes and u16550_bus_send_bytes_exact write nothing and return an error. No call
+ * writes a byte or switches the direction otherwise, in whatever order they are made: that is
+ * proved.
  *
  * The two delays are the caller's, by a clock of its own:
  *
- * - Between start_sending and the first byte: as long as the transceiver takes to drive the bus,
- *   often some microseconds.
- * - Between the end of the last byte and try_finish. flush and is_idle tell when the
- *   transmitter is empty. Some chips show that when the last stop bit begins, so wait as long as
- *   this bit takes, or two of them: at 9,600 baud 104 microseconds a bit. Most protocols let a
- *   remote wait longer than that before it answers.
+ * - Between u16550_bus_start_sending and the first byte: as long as the transceiver takes to drive
+ *   the bus, often some microseconds.
+ * - Between the end of the last byte and u16550_bus_try_finish. u16550_bus_flush and
+ *   u16550_bus_is_idle tell when the transmitter is empty. Some chips show that when the last stop
+ *   bit begins, so wait as long as this bit takes, or two of them: at 9,600 baud 104 microseconds
+ *   a bit. Most protocols let a remote wait longer than that before it answers.
  *
  * No interrupt tells that the transmitter is empty: THR_EMPTY comes while the last byte is still
  * in the shift register. So somebody polls, or waits for the time that the bytes take.
  *
  * Whether the receiver hears what this end sends depends on the board. If it does, as many bytes
- * as were sent are received: take them by receive_bytes between calls that send, before they
- * overrun the receiver. If other bytes come, two ends sent at once. No call drops received bytes.
+ * as were sent are received: take them by receive_echo between calls that send, before they
+ * overrun the receiver. No call drops received bytes.
  *
- * Only calls of this type keep the direction, so it lends no driver that could write. For other
- * calls, as set_frame, take the driver back by into_inner, and give it to new again. So set
- * the size of the FIFOs, by set_fifo_size, before new. The direction is by software: where RTS
- * is the line, flow control by the chip would drive it, so each switch turns that off.
+ * Only calls of this type keep the direction, so no call of a driver is to be made over it. For
+ * other calls, as u16550_set_frame, take the driver back by u16550_bus_end, and give it to
+ * u16550_bus_new again. So set the size of the FIFOs, by u16550_set_fifo_size, before
+ * u16550_bus_new. The direction is by software: where RTS is the line, flow control by the chip
+ * would drive it, so each switch turns that off.
  */
 struct u16550_core_half_duplex {
     struct u16550_core_driver uart;
@@ -840,10 +814,9 @@ int u16550_default_config(struct u16550_config *config);
  * Returns an enum u16550_nearest_error if there is none. nearest may be config.
  */
 /*
- * Proved: the configuration with the frequency at which the nearest divisor is exact, so
- * that it is the one that the exact arithmetic computes, and the rate is near enough; or the
- * nearest divisor, which does not fit, or fits and is too far off, as each other divisor
- * then is.
+ * Proved: the configuration with the frequency at which the nearest divisor is exact, so that it
+ * is the one that the exact arithmetic computes, and the rate is near enough; or the nearest
+ * divisor, which does not fit, or fits and is too far off, as each other divisor then is.
  */
 int u16550_nearest(const struct u16550_config *config, uint32_t per_mille, struct u16550_config *nearest);
 #endif
@@ -854,7 +827,7 @@ int u16550_get_config(struct u16550 *uart, struct u16550_config *config);
 int u16550_get_state(struct u16550 *uart, struct u16550_state *state);
 int u16550_fifo_enabled(struct u16550 *uart, uint8_t *enabled);
 int u16550_spin_limit(struct u16550 *uart, uint64_t *limit);
-/* Proved: no access, and this change to the fields. */
+/* Proved: no access is made, and nothing else of the driver changes. */
 int u16550_set_spin_limit(struct u16550 *uart, uint64_t limit);
 
 /*
@@ -865,7 +838,7 @@ int u16550_set_spin_limit(struct u16550 *uart, uint64_t limit);
  * u16550_enable_64_byte_fifos. u16550_find_fifo_size finds the size of FIFOs as they are set up.
  */
 int u16550_fifo_size(struct u16550 *uart, uint16_t *fifo_size);
-/* Proved: no access, and this change to the fields. */
+/* Proved: no access is made, and nothing else of the driver changes. */
 int u16550_set_fifo_size(struct u16550 *uart, uint16_t fifo_size);
 
 #ifndef U16550_OMIT_TIMES
@@ -878,8 +851,8 @@ int u16550_set_fifo_size(struct u16550 *uart, uint16_t fifo_size);
 
 /* How many clocks a character takes on the line: its start bit, data bits, parity bit and stop bits, with one and a half exact. */
 /*
- * Proved: the time of a character, if there is a divisor for the baud rate; otherwise why
- * there is none.
+ * Proved: the time of a character, if there is a divisor for the baud rate; otherwise why there is
+ * none.
  */
 int u16550_character_clocks(const struct u16550_config *config, uint64_t *clocks);
 
@@ -891,10 +864,10 @@ int u16550_character_clocks(const struct u16550_config *config, uint64_t *clocks
  * two accesses of a byte take longer than a character.
  */
 /*
- * Proved: how late it may begin where an access takes e clocks, and the others at its line
- * are served first: an access reads ISR, and the first byte is read four accesses later if a
- * line error is told before it. It is in time if something is left, and no character comes
- * while another one is read, by two accesses.
+ * Proved: how late it may begin where an access takes e clocks, and the others at its line are
+ * served first: an access reads ISR, and the first byte is read four accesses later if a line
+ * error is told before it. It is in time if something is left, and no character comes while
+ * another one is read, by two accesses.
  */
 int u16550_handler_budget(const struct u16550_config *config, uint16_t fifo_size, uint64_t access_clocks,
                           uint64_t before_clocks, uint64_t *clocks);
@@ -904,8 +877,8 @@ int u16550_handler_budget(const struct u16550_config *config, uint16_t fifo_size
  * end holds back.
  */
 /*
- * Proved: the most characters that end within so many clocks: one ends at once, and each
- * other a character's time later.
+ * Proved: the most characters that end within so many clocks: one ends at once, and each other a
+ * character's time later.
  */
 int u16550_characters_in(const struct u16550_config *config, uint64_t clocks, uint64_t *characters);
 
@@ -926,10 +899,9 @@ int u16550_timeout_clocks(const struct u16550_config *config, uint64_t *clocks);
  * none.
  */
 /*
- * Proved: The limit with which no wait for a full transmitter gives up, of a FIFO and the
- * shift register, if each look takes at least e clocks. A character is so many looks, of
- * which the last may begin before it ends; and one look more finds that the next character
- * has begun.
+ * Proved: The limit with which no wait for a full transmitter gives up, of a FIFO and the shift
+ * register, if each look takes at least e clocks. A character is so many looks, of which the last
+ * may begin before it ends; and one look more finds that the next character has begun.
  */
 int u16550_spin_limit_for(const struct u16550_config *config, uint16_t fifo_size, uint64_t access_clocks, uint64_t *limit);
 
@@ -940,11 +912,11 @@ int u16550_spin_limit_for(const struct u16550_config *config, uint16_t fifo_size
  */
 /* Proved: the whole part of value * times / per, if there is one that fits into 64 bits. */
 int u16550_nanoseconds_within(const struct u16550_config *config, uint64_t clocks, uint64_t *nanoseconds);
-/* Proved: the same rounded up. */
+/* Proved: value * times / per, rounded up, if that fits into 64 bits. */
 int u16550_nanoseconds_covering(const struct u16550_config *config, uint64_t clocks, uint64_t *nanoseconds);
 /* Proved: the whole part of value * times / per, if there is one that fits into 64 bits. */
 int u16550_clocks_within(const struct u16550_config *config, uint64_t nanoseconds, uint64_t *clocks);
-/* Proved: the same rounded up. */
+/* Proved: value * times / per, rounded up, if that fits into 64 bits. */
 int u16550_clocks_covering(const struct u16550_config *config, uint64_t nanoseconds, uint64_t *clocks);
 #endif
 
@@ -956,10 +928,10 @@ int u16550_check_present(struct u16550 *uart, uint8_t *present);
 
 /* Sets the device up. Returns an enum u16550_init_error if it cannot be. */
 /*
- * Proved: the configuration is stored, the scratch register tested, divisor, frame and FIFO
- * are set, the receiver is drained, and MCR is written; after a wait for an empty
- * transmitter the statuses are read, and IER is written. Or nothing is done, if there is no
- * divisor; or all up to the test that fails, or to the wait that reaches the limit.
+ * Proved: the configuration is stored, the scratch register tested, divisor, frame and FIFO are
+ * set, the receiver is drained, and MCR is written; after a wait for an empty transmitter the
+ * statuses are read, and IER is written. Or nothing is done, if there is no divisor; or all up to
+ * the test that fails, or to the wait that reaches the limit.
  */
 int u16550_init(struct u16550 *uart, const struct u16550_config *config);
 
@@ -968,11 +940,11 @@ int u16550_init(struct u16550 *uart, const struct u16550_config *config);
  * with other outputs. If the wait that comes first ends by U16550_INIT_STALLED, nothing was written but the scratch register.
  */
 /*
- * Proved: as init, with the test, the wait and the outputs of this setup. The configuration
- * is stored; the test and the wait that is to be first are made; divisor, frame and FIFO are
- * set, the receiver is drained, and MCR is written; the wait that is to be last is made; the
- * statuses are read, and IER is written. Or nothing is done, if there is no divisor; or all
- * up to the test that fails, or to the wait that reaches the limit.
+ * Proved: as u16550_init, with the test, the wait and the outputs of this setup. The configuration
+ * is stored; the test and the wait that is to be first are made; divisor, frame and FIFO are set,
+ * the receiver is drained, and MCR is written; the wait that is to be last is made; the statuses
+ * are read, and IER is written. Or nothing is done, if there is no divisor; or all up to the test
+ * that fails, or to the wait that reaches the limit.
  */
 int u16550_init_with(struct u16550 *uart, const struct u16550_config *config, const struct u16550_setup *setup);
 
@@ -982,9 +954,9 @@ int u16550_init_with(struct u16550 *uart, const struct u16550_config *config, co
  * may be null.
  */
 /*
- * Proved: MCR and IER are read, and there is a wait for an empty transmitter. If it reaches
- * the limit, nothing is written, and the result is a stall; else loopback is entered, bytes
- * are exchanged up to the first error, and MCR and IER are restored.
+ * Proved: MCR and IER are read, and there is a wait for an empty transmitter. If it reaches the
+ * limit, nothing is written, and the result is a stall; else loopback is entered, bytes are
+ * exchanged up to the first error, and MCR and IER are restored.
  */
 int u16550_test_loopback(struct u16550 *uart, struct u16550_loopback_failure *failure);
 #endif
@@ -996,11 +968,11 @@ int u16550_test_loopback(struct u16550 *uart, struct u16550_loopback_failure *fa
  * the line. Returns an enum u16550_fifos_error if no size was found.
  */
 /*
- * Proved: nothing is done if the FIFOs are off. Else MCR and IER are read, and there is a
- * wait for an empty transmitter. If it reaches the limit, nothing is written, and the result
- * is a stall; else loopback is entered, the transmitter is flooded, what comes back is
- * counted, the FIFOs are reset, and MCR and IER are restored. The result is the largest size
- * of no more characters than came back.
+ * Proved: nothing is done if the FIFOs are off. Else MCR and IER are read, and there is a wait for
+ * an empty transmitter. If it reaches the limit, nothing is written, and the result is a stall;
+ * else loopback is entered, the transmitter is flooded, what comes back is counted, the FIFOs are
+ * reset, and MCR and IER are restored. The result is the largest size of no more characters than
+ * came back.
  */
 int u16550_find_fifo_size(struct u16550 *uart, uint16_t *fifo_size);
 
@@ -1012,9 +984,9 @@ int u16550_find_fifo_size(struct u16550 *uart, uint16_t *fifo_size);
  * u16550_fifos_error if the FIFOs are off, or if the transmitter did not become empty.
  */
 /*
- * Proved: nothing is done if the FIFOs are off. Else LCR and IER are read, and there is a
- * wait for an empty transmitter. If it reaches the limit, nothing is written, and the result
- * is a stall; else FIFOs of 64 are asked for, and the result is whether ISR shows them.
+ * Proved: nothing is done if the FIFOs are off. Else LCR and IER are read, and there is a wait for
+ * an empty transmitter. If it reaches the limit, nothing is written, and the result is a stall;
+ * else FIFOs of 64 are asked for, and the result is whether ISR shows them.
  */
 int u16550_enable_64_byte_fifos(struct u16550 *uart, uint8_t *enabled);
 
@@ -1025,16 +997,16 @@ int u16550_enable_64_byte_fifos(struct u16550 *uart, uint8_t *enabled);
  * latch only if LCR shows DLAB, writes LCR back, and is without interrupts while it reads ISR.
  */
 /*
- * Proved: the registers show the configuration and these outputs, without loopback; or one
- * does not, and the error has what was asked for and what it shows; or the configuration has
- * no divisor, and no access was made.
+ * Proved: the registers show the configuration and these outputs, without loopback; or one does
+ * not, and the error has what was asked for and what it shows; or the configuration has no
+ * divisor, and no access was made.
  */
 int u16550_check_configured(struct u16550 *uart, uint8_t outputs, struct u16550_difference *difference);
 
 /* Whether a remote is there and ready to receive. Returns an enum u16550_remote_error if not. */
 /*
- * Proved: one read of MSR, which shows DSR and CTS; or which does not show the one that the
- * error names.
+ * Proved: one read of MSR, which shows DSR and CTS; or which does not show the one that the error
+ * names.
  */
 int u16550_check_connected(struct u16550 *uart);
 
@@ -1045,14 +1017,14 @@ int u16550_check_connected(struct u16550 *uart);
  * u16550_frame_error if the divisor cannot be had.
  */
 /*
- * Proved: clock, baud rate and frame are stored, and written to the divisor latch and to
- * LCR; or there is no divisor, and nothing is done.
+ * Proved: clock, baud rate and frame are stored, and written to the divisor latch and to LCR; or
+ * there is no divisor, and nothing is done.
  */
 int u16550_set_frame(struct u16550 *uart, const struct u16550_config *config);
 
 /* Waits until all that was sent is on the line, within the spin limit, and then does the same. */
 /*
- * Proved: after a wait for an empty transmitter all is as in set_frame; or there is no
+ * Proved: after a wait for an empty transmitter all is as in u16550_set_frame; or there is no
  * divisor, and nothing is done; or the wait reaches the limit, and nothing is written.
  */
 int u16550_set_frame_when_idle(struct u16550 *uart, const struct u16550_config *config);
@@ -1062,8 +1034,8 @@ int u16550_set_frame_when_idle(struct u16550 *uart, const struct u16550_config *
  * U16550_FIFOS_OFF, without an access, if the FIFOs are off.
  */
 /*
- * Proved: with the FIFOs on, the level is stored and written to FCR; with them off, nothing
- * is done, and the result is the error.
+ * Proved: with the FIFOs on, the level is stored and written to FCR; with them off, nothing is
+ * done, and the result is the error.
  */
 int u16550_set_trigger_level(struct u16550 *uart, uint8_t characters);
 
@@ -1072,8 +1044,8 @@ int u16550_set_trigger_level(struct u16550 *uart, uint8_t characters);
  * the FIFOs what an enum u16550_fifo_action says. Does not wait.
  */
 /*
- * Proved: all interrupts are disabled, the outputs are written to MCR, without loopback, and
- * then FCR, if the FIFOs are to be reset or disabled.
+ * Proved: all interrupts are disabled, the outputs are written to MCR, without loopback, and then
+ * FCR, if the FIFOs are to be reset or disabled.
  */
 int u16550_quiesce(struct u16550 *uart, uint8_t outputs, uint8_t fifos);
 
@@ -1082,8 +1054,8 @@ int u16550_quiesce(struct u16550 *uart, uint8_t outputs, uint8_t fifos);
  * without loopback, SPR, and IER in the end. Both FIFOs are emptied; if they were on, they get the configured trigger level.
  */
 /*
- * Proved: divisor and frame, the FIFOs, and then MCR without loopback, SPR and IER are
- * written as the dump has them. If it has the FIFOs on, ISR shows whether they are.
+ * Proved: divisor and frame, the FIFOs, and then MCR without loopback, SPR and IER are written as
+ * the dump has them. If it has the FIFOs on, ISR shows whether they are.
  */
 int u16550_restore(struct u16550 *uart, const struct u16550_dump *dump);
 
@@ -1095,9 +1067,9 @@ int u16550_restore(struct u16550 *uart, const struct u16550_dump *dump);
  * driver is as it was.
  */
 /*
- * Proved: LCR shows that DLAB is off, MCR that loopback is off, the divisor latch a divisor,
- * and ISR whether the FIFOs are on, which the driver takes them to be; or these are read up
- * to the one that the error is about, and the driver stays as it was.
+ * Proved: LCR shows that DLAB is off, MCR that loopback is off, the divisor latch a divisor, and
+ * ISR whether the FIFOs are on, which the driver takes them to be; or these are read up to the one
+ * that the error is about, and the driver stays as it was.
  */
 int u16550_attach(struct u16550 *uart, uint8_t *dll, uint8_t *dlm);
 
@@ -1126,15 +1098,9 @@ int u16550_emergency(struct u16550 *uart);
 int u16550_set_modem_control(struct u16550 *uart, uint8_t outputs);
 
 /* Asserts or clears one output, and leaves the others. Clears loopback. */
-/*
- * Proved: set_rts, set_dtr: MCR is read, and written with this bit set or cleared, without
- * loopback.
- */
+/* Proved: MCR is read, and written with this bit set or cleared, without loopback. */
 int u16550_set_rts(struct u16550 *uart, uint8_t on);
-/*
- * Proved: set_rts, set_dtr: MCR is read, and written with this bit set or cleared, without
- * loopback.
- */
+/* Proved: MCR is read, and written with this bit set or cleared, without loopback. */
 int u16550_set_dtr(struct u16550 *uart, uint8_t on);
 
 /* Begins or ends a break. */
@@ -1144,21 +1110,18 @@ int u16550_set_break(struct u16550 *uart, uint8_t on);
 /* --------------------------------------------------------------- sending and receiving */
 
 /* These two and the next two do not wait. They return U16550_RECEIVE_NO_DATA or an enum u16550_send_error. */
-/* Proved: one read of LSR, which shows a received byte exactly if the result is Ok. */
+/* Proved: one read of LSR, which shows a received byte exactly if the result is true. */
 int u16550_ready_to_receive(struct u16550 *uart);
 /*
  * Proved: one send check: LSR shows THR_EMPTY and, if CTS is checked, the modem lines allow
  * sending; or the error names which of these is not so.
  */
 int u16550_ready_to_send(struct u16550 *uart);
-/*
- * Proved: LSR shows a received byte, which is read from DATA and returned; or LSR shows
- * none.
- */
+/* Proved: LSR shows a received byte, which is read from DATA and returned; or LSR shows none. */
 int u16550_try_receive_byte(struct u16550 *uart, uint8_t *byte);
 /*
- * Proved: the accesses of send_bytes for this one byte, which is sent exactly if the result
- * is Ok; the only error is NoCapacity.
+ * Proved: the accesses of u16550_send_bytes for this one byte, which is sent exactly if the result
+ * is U16550_OK; the only error is U16550_SEND_NO_CAPACITY.
  */
 int u16550_try_send_byte(struct u16550 *uart, uint8_t byte);
 
@@ -1167,14 +1130,14 @@ int u16550_try_send_byte(struct u16550 *uart, uint8_t byte);
  * as u16550_fifo_size says if the FIFO is on, else one.
  */
 /*
- * Proved: bytes are read from DATA, each after LSR shows it, until the slots are full, or
- * LSR shows none.
+ * Proved: bytes are read from DATA, each after LSR shows it, until the slots are full, or LSR
+ * shows none.
  */
 int u16550_receive_bytes(struct u16550 *uart, uint8_t *buffer, size_t len, size_t *count);
 /*
- * Proved: nothing if there are no bytes; else a send check and, if it succeeds, bytes from
- * the front are written to DATA: as many as a FIFO of the size that is set holds, or one if
- * it is off. The result is how many.
+ * Proved: nothing if there are no bytes; else a send check and, if it succeeds, bytes from the
+ * front are written to DATA: as many as a FIFO of the size that is set holds, or one if it is off.
+ * The result is how many.
  */
 int u16550_send_bytes(struct u16550 *uart, const uint8_t *buffer, size_t len, size_t *count);
 
@@ -1183,9 +1146,9 @@ int u16550_send_bytes(struct u16550 *uart, const uint8_t *buffer, size_t len, si
  * whatever u16550_fifo_size says. On a chip with fewer the bytes that do not fit are lost.
  */
 /*
- * Proved: nothing if there are no bytes; else a send check and, if it succeeds, bytes from
- * the front are written to DATA: as many as a FIFO of this size holds, or one if it is off.
- * The result is how many.
+ * Proved: nothing if there are no bytes; else a send check and, if it succeeds, bytes from the
+ * front are written to DATA: as many as a FIFO of this size holds, or one if it is off. The result
+ * is how many.
  */
 int u16550_send_burst(struct u16550 *uart, const uint8_t *buffer, size_t len, uint16_t fifo_size, size_t *count);
 
@@ -1195,9 +1158,9 @@ int u16550_send_burst(struct u16550 *uart, const uint8_t *buffer, size_t len, ui
  * the urgent one is the first of them.
  */
 /*
- * Proved: nothing if there are no bytes; else a send check and, if it succeeds, bytes from
- * the front are written to DATA: as many as a FIFO of the size that is set holds, or one if
- * it is off. The result is how many.
+ * Proved: nothing if there are no bytes; else a send check and, if it succeeds, bytes from the
+ * front are written to DATA: as many as a FIFO of the size that is set holds, or one if it is off.
+ * The result is how many.
  */
 int u16550_send_gathered(struct u16550 *uart, const uint8_t *urgent, const uint8_t *first, size_t first_len,
                          const uint8_t *second, size_t second_len, size_t *count);
@@ -1207,13 +1170,13 @@ int u16550_send_gathered(struct u16550 *uart, const uint8_t *urgent, const uint8
  * an earlier call has looked at the first byte, its errors are missing here. The next u16550_lsr has all of them.
  */
 /*
- * Proved: LSR shows a received byte, which is read from DATA and returned with the errors
- * that LSR shows; or LSR shows none.
+ * Proved: LSR shows a received byte, which is read from DATA and returned with the errors that LSR
+ * shows; or LSR shows none.
  */
 int u16550_try_receive_with_errors(struct u16550 *uart, struct u16550_received *received);
 /*
- * Proved: bytes are read from DATA, each after LSR shows it and its errors, until the slots
- * are full, or LSR shows none.
+ * Proved: bytes are read from DATA, each after LSR shows it and its errors, until the slots are
+ * full, or LSR shows none.
  */
 int u16550_receive_with_errors(struct u16550 *uart, struct u16550_received *received, size_t len, size_t *count);
 
@@ -1227,8 +1190,8 @@ int u16550_receive_with_errors(struct u16550 *uart, struct u16550_received *rece
  */
 int u16550_receive_bytes_exact(struct u16550 *uart, uint8_t *buffer, size_t len, size_t *done);
 /*
- * Proved: all bytes, burst by burst, each burst after its own wait; or those before the
- * burst whose wait reaches the limit, as many as the error reports.
+ * Proved: all bytes, burst by burst, each burst after its own wait; or those before the burst
+ * whose wait reaches the limit, as many as the error reports.
  */
 int u16550_send_bytes_exact(struct u16550 *uart, const uint8_t *buffer, size_t len, size_t *done);
 
@@ -1238,28 +1201,26 @@ int u16550_send_bytes_exact(struct u16550 *uart, const uint8_t *buffer, size_t l
  * keep_waiting must not be null, and a call over this driver from it returns U16550_BUSY.
  */
 /*
- * Proved: receive_bytes_while, with the answers of the caller: the slots are filled, each
- * byte after its own wait; or those before the one whose wait ended in vain, as many as the
- * error reports.
+ * Proved: with the answers of the caller: the slots are filled, each byte after its own wait; or
+ * those before the one whose wait ended in vain, as many as the error reports.
  */
 int u16550_receive_bytes_while(struct u16550 *uart, uint8_t *buffer, size_t len, uint8_t (*keep_waiting)(void *context),
                                void *context, size_t *done);
 /*
- * Proved: send_bytes_while, with the answers of the caller: all bytes, burst by burst, each
- * burst after its own wait; or those before the burst whose wait ended in vain, as many as
- * the error reports.
+ * Proved: with the answers of the caller: all bytes, burst by burst, each burst after its own
+ * wait; or those before the burst whose wait ended in vain, as many as the error reports.
  */
 int u16550_send_bytes_while(struct u16550 *uart, const uint8_t *buffer, size_t len, uint8_t (*keep_waiting)(void *context),
                             void *context, size_t *done);
 
 /* The same wait as u16550_flush, and no longer than keep_waiting wants. */
 /*
- * Proved: flush_while, with the answers of the caller: the transmitter was empty after fewer
- * misses in a row than the limit; or the wait was in vain.
+ * Proved: with the answers of the caller: the transmitter was empty after fewer misses in a row
+ * than the limit; or the wait was in vain.
  */
 int u16550_flush_while(struct u16550 *uart, uint8_t (*keep_waiting)(void *context), void *context);
 
-/* As the traits of embedded-io: some bytes, and a wait for the first. They return U16550_STALLED as the last two. */
+/* Some bytes, and a wait for the first. They return U16550_STALLED as the last two. */
 int u16550_read(struct u16550 *uart, uint8_t *buffer, size_t len, size_t *count);
 int u16550_write(struct u16550 *uart, const uint8_t *buffer, size_t len, size_t *count);
 int u16550_flush(struct u16550 *uart);
@@ -1272,11 +1233,12 @@ int u16550_is_idle(struct u16550 *uart, uint8_t *idle);
 
 /*
  * Whether the chip is gone, as one that was unplugged: whether MCR shows 0xff, as most buses do where nobody answers. Then all that is
- * received is 0xff, and all sends succeed. Reads MCR once, which changes nothing.
+ * received is 0xff, and all sends succeed. Reads MCR once, which changes nothing. A bus of 0x7f or 0 is not told from a chip:
+ * u16550_check_present, which writes SPR, tells it.
  */
 /*
- * Proved: one read of MCR, which shows all bits set, as a bus does that nobody drives,
- * exactly if the result is true.
+ * Proved: one read of MCR, which shows all bits set, as a bus does that nobody drives, exactly if
+ * the result is true.
  */
 int u16550_is_gone(struct u16550 *uart, uint8_t *gone);
 
@@ -1297,20 +1259,14 @@ int u16550_ier(struct u16550 *uart, uint8_t *value);
 int u16550_isr(struct u16550 *uart, uint8_t *value);
 int u16550_lcr(struct u16550 *uart, uint8_t *value);
 int u16550_mcr(struct u16550 *uart, uint8_t *value);
-/*
- * Proved: one read of LSR, which is returned joined with the saved bits, of which none are
- * left.
- */
+/* Proved: one read of LSR, which is returned joined with the saved bits, of which none are left. */
 int u16550_lsr(struct u16550 *uart, uint8_t *value);
-/*
- * Proved: one read of MSR, which is returned joined with the saved bits, of which none are
- * left.
- */
+/* Proved: one read of MSR, which is returned joined with the saved bits, of which none are left. */
 int u16550_msr(struct u16550 *uart, uint8_t *value);
 int u16550_spr(struct u16550 *uart, uint8_t *value);
 /*
- * Proved: LCR is read, and written with DLAB; the divisor latch is read, its low byte first;
- * and LCR is written back.
+ * Proved: LCR is read, and written with DLAB; the divisor latch is read, its low byte first; and
+ * LCR is written back.
  */
 int u16550_dll_dlm(struct u16550 *uart, uint8_t *dll, uint8_t *dlm);
 
@@ -1318,8 +1274,8 @@ int u16550_dll_dlm(struct u16550 *uart, uint8_t *dll, uint8_t *dlm);
 int u16550_peek_modem(struct u16550 *uart, uint8_t *msr);
 
 /*
- * Proved: IER is read; what it shows, with these bits added, is stored in the configuration
- * and written.
+ * Proved: IER is read; what it shows, with these bits added, is stored in the configuration and
+ * written.
  */
 int u16550_enable_interrupts(struct u16550 *uart, uint8_t interrupts);
 /*
@@ -1437,8 +1393,8 @@ int u16550_ring_is_paused(struct u16550 *uart, uint8_t *paused);
 
 /* Queues bytes to be sent, as many as there is room for. *count is how many. */
 /*
- * Proved: bytes from the front of the input are added at the end of the transmit ring, as
- * many as it has room for; if there are any, what the chip takes at once is sent.
+ * Proved: bytes from the front of the input are added at the end of the transmit ring, as many as
+ * it has room for; if there are any, what the chip takes at once is sent.
  */
 int u16550_ring_queue(struct u16550 *uart, const uint8_t *buffer, size_t len, size_t *count);
 
@@ -1460,8 +1416,8 @@ int u16550_ring_is_held(struct u16550 *uart, uint8_t *held);
  * replaced, and *replaced is that byte. The second tells which byte still waits.
  */
 /*
- * Proved: the byte is the urgent one, in place of one that waited, which is returned; and
- * what the chip takes at once is sent.
+ * Proved: the byte is the urgent one, in place of one that waited, which is returned; and what the
+ * chip takes at once is sent.
  */
 int u16550_ring_queue_urgent(struct u16550 *uart, uint8_t byte, struct u16550_urgent *replaced);
 int u16550_ring_urgent(struct u16550 *uart, struct u16550_urgent *urgent);
@@ -1470,14 +1426,11 @@ int u16550_ring_urgent(struct u16550 *uart, struct u16550_urgent *urgent);
  * Drop the bytes that are queued, and those that were received and not taken. *count is how many. An urgent byte and what is in the
  * chip stay.
  */
-/*
- * Proved: the transmit ring is emptied without an access, and the result is how many bytes
- * it had.
- */
+/* Proved: the transmit ring is emptied without an access, and the result is how many bytes it had. */
 int u16550_ring_clear_transmit(struct u16550 *uart, size_t *count);
 /*
- * Proved: the receive ring is emptied, and the result is how many bytes it had; if it had
- * any, a pause of receiving ends.
+ * Proved: the receive ring is emptied, and the result is how many bytes it had; if it had any, a
+ * pause of receiving ends.
  */
 int u16550_ring_clear_receive(struct u16550 *uart, size_t *count);
 
@@ -1492,8 +1445,8 @@ int u16550_ring_take_low(struct u16550 *uart, uint8_t *low);
 
 /* Takes received bytes, as many as there are and as there is room for. *count is how many. */
 /*
- * Proved: the bytes are from the front of the receive ring, as many as there are slots and
- * bytes; if there are any, a pause of receiving ends.
+ * Proved: the bytes are from the front of the receive ring, as many as there are slots and bytes;
+ * if there are any, a pause of receiving ends.
  */
 int u16550_ring_take(struct u16550 *uart, uint8_t *buffer, size_t len, size_t *count);
 
@@ -1530,9 +1483,9 @@ int u16550_ring_take_with_errors(struct u16550 *uart, struct u16550_received *re
  * again. MCR is read, and written if RTS is not so yet: the other outputs as they were, and loopback off.
  */
 /*
- * Proved: RTS is off if the receive ring has room for fewer bytes than hold, on if it has
- * room for release or more, and else stays. For this MCR is read, and written only if it
- * shows RTS otherwise.
+ * Proved: RTS is off if the receive ring has room for fewer bytes than hold, on if it has room for
+ * release or more, and else stays. For this MCR is read, and written only if it shows RTS
+ * otherwise.
  */
 int u16550_ring_adjust_rts(struct u16550 *uart, size_t hold, size_t release);
 
@@ -1543,9 +1496,9 @@ int u16550_ring_adjust_rts(struct u16550 *uart, size_t hold, size_t release);
  * chip. Marks of 0 let the other end go on in any case.
  */
 /*
- * Proved: the other end is told XOFF if the receive ring has room for fewer bytes than hold,
- * and XON if it has room for release or more, as a queue_urgent sends it. What was told last
- * is not told again, and nothing is told while another urgent byte waits. The result is what
+ * Proved: the other end is told XOFF if the receive ring has room for fewer bytes than hold, and
+ * XON if it has room for release or more, as a u16550_ring_queue_urgent sends it. What was told
+ * last is not told again, and nothing is told while another urgent byte waits. The result is what
  * was told.
  */
 int u16550_ring_adjust_xoff(struct u16550 *uart, size_t hold, size_t release, struct u16550_urgent *told);
@@ -1556,8 +1509,8 @@ int u16550_ring_adjust_xoff(struct u16550 *uart, size_t hold, size_t release, st
  * taken. The hold is that of u16550_ring_hold_transmit. Call it at the end of the handler.
  */
 /*
- * Proved: of the bytes that came into the receive ring since it looked last, and are still
- * there, the last XON or XOFF is obeyed, and is the result. All bytes stay there.
+ * Proved: of the bytes that came into the receive ring since it looked last, and are still there,
+ * the last XON or XOFF is obeyed, and is the result. All bytes stay there.
  */
 int u16550_ring_obey_xoff(struct u16550 *uart, struct u16550_urgent *told);
 
@@ -1567,8 +1520,8 @@ int u16550_ring_obey_xoff(struct u16550 *uart, struct u16550_urgent *told);
  * U16550_IER_THR_EMPTY, u16550_quiesce, u16550_restore, u16550_test_loopback, u16550_init and u16550_init_with.
  */
 /*
- * Proved: if bytes wait, what the chip takes at once is sent, and THR_EMPTY is enabled if
- * some are left, else disabled.
+ * Proved: if bytes wait, what the chip takes at once is sent, and THR_EMPTY is enabled if some are
+ * left, else disabled.
  */
 int u16550_ring_resume_transmit(struct u16550 *uart);
 
@@ -1581,9 +1534,9 @@ int u16550_ring_resume_transmit(struct u16550 *uart);
  * ever. But then the controller calls the handler for ever, unless somebody counts: u16550_ring_try_handle does.
  */
 /*
- * Proved: as many interrupts as are pending are served, but no more than the limit. Then,
- * unless ISR has shown that none is pending, IER is read, and written with 0 and with what
- * was read: what is left is triggered again.
+ * Proved: as many interrupts as are pending are served, but no more than the limit. Then, unless
+ * ISR has shown that none is pending, IER is read, and written with 0 and with what was read: what
+ * is left is triggered again.
  */
 int u16550_ring_handle(struct u16550 *uart, size_t limit, struct u16550_handled *handled);
 
@@ -1596,9 +1549,9 @@ int u16550_ring_handle(struct u16550 *uart, size_t limit, struct u16550_handled 
  * the limit is 32.
  */
 /*
- * Proved: a handle, whose round is counted, and after which the chip may be found stuck; or,
- * if the chip is stuck already, all interrupts are disabled again. The error is why it is
- * stuck.
+ * Proved: a u16550_ring_handle, whose round is counted, and after which the chip may be found
+ * stuck; or, if the chip is stuck already, all interrupts are disabled again. The error is why it
+ * is stuck.
  */
 int u16550_ring_try_handle(struct u16550 *uart, size_t limit, uint32_t rounds, struct u16550_handled *handled);
 
@@ -1610,8 +1563,8 @@ int u16550_ring_stuck(struct u16550 *uart, struct u16550_stuck *stuck);
  * what waits. After u16550_init, which enables interrupts itself, give 0.
  */
 /*
- * Proved: these interrupts are enabled, without DATA_READY while receiving is paused; the
- * chip is not stuck any more, and sending resumes.
+ * Proved: these interrupts are enabled, without DATA_READY while receiving is paused; the chip is
+ * not stuck any more, and sending resumes.
  */
 int u16550_ring_restart(struct u16550 *uart, uint8_t interrupts);
 
@@ -1642,9 +1595,9 @@ int u16550_ring_service(struct u16550 *uart, size_t *count);
 int u16550_line_handle(struct u16550_line_port *ports, size_t count, size_t limit, uint32_t rounds, uint8_t *served);
 
 /* LSR or MSR, joined with the errors or changes that were noted since the last of these calls. */
-/* Proved: lsr, joined with what was noted, after which nothing is noted. */
+/* Proved: u16550_lsr, joined with what was noted, after which nothing is noted. */
 int u16550_ring_take_line(struct u16550 *uart, uint8_t *lsr);
-/* Proved: msr, joined with what was noted, after which nothing is noted. */
+/* Proved: u16550_msr, joined with what was noted, after which nothing is noted. */
 int u16550_ring_take_modem(struct u16550 *uart, uint8_t *msr);
 
 /*
@@ -1652,8 +1605,8 @@ int u16550_ring_take_modem(struct u16550 *uart, uint8_t *msr);
  * away the interrupt that would have sent them.
  */
 /*
- * Proved: the dump of the driver, whose read of ISR may acknowledge THR_EMPTY; and then
- * sending resumes.
+ * Proved: the dump of the driver, whose read of ISR may acknowledge THR_EMPTY; and then sending
+ * resumes.
  */
 int u16550_ring_config_register_dump(struct u16550 *uart, struct u16550_dump *dump);
 #endif

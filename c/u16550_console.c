@@ -8,9 +8,11 @@
  */
 #include "u16550_console.h"
 
-/* Where the registers are, and their bits. */
+/* Where the registers are, their bits, and numbers of the driver. */
 enum {
     UART_DATA = 0,
+    UART_DLL = 0,
+    UART_DLM = 1,
     UART_IER = 1,
     UART_FCR = 2,
     UART_ISR = 2,
@@ -21,17 +23,14 @@ enum {
     UART_SPR = 7,
     U16550_FCR_FIFO_ENABLE = 0x01,
     U16550_FCR_RX_FIFO_RESET = 0x02,
+    U16550_FCR_RX_FIFO_TRIGGER_LEVEL = 0xc0,
     U16550_FCR_TX_FIFO_RESET = 0x04,
-    U16550_ISR_FIFOS_ENABLED0 = 0x40,
-    U16550_ISR_FIFOS_ENABLED1 = 0x80,
+    U16550_ISR_FIFOS_ENABLED = 0xc0,
     U16550_LCR_DLAB = 0x80,
-    U16550_LCR_MORE_STOP_BITS = 0x04,
     U16550_LCR_SET_BREAK = 0x40,
-    U16550_LSR_BREAK_INTERRUPT = 0x10,
+    U16550_LCR_8N1 = 0x03,
     U16550_LSR_DATA_READY = 0x01,
-    U16550_LSR_FRAMING_ERROR = 0x08,
-    U16550_LSR_OVERRUN_ERROR = 0x02,
-    U16550_LSR_PARITY_ERROR = 0x04,
+    U16550_LSR_LINE_ERRORS = 0x1e,
     U16550_LSR_THR_EMPTY = 0x20,
     U16550_LSR_TRANSMITTER_EMPTY = 0x40,
     U16550_MCR_DTR = 0x01,
@@ -39,14 +38,11 @@ enum {
     U16550_MCR_OUT_1 = 0x04,
     U16550_MCR_OUT_2_INT_ENABLE = 0x08,
     U16550_MCR_RTS = 0x02,
-    U16550_MSR_CD = 0x80,
-    U16550_MSR_CTS = 0x10,
-    U16550_MSR_DELTA_CD = 0x08,
-    U16550_MSR_DELTA_CTS = 0x01,
-    U16550_MSR_DELTA_DSR = 0x02,
-    U16550_MSR_DSR = 0x20,
-    U16550_MSR_RI = 0x40,
-    U16550_MSR_TRAILING_EDGE_RI = 0x04
+    UART_FIFO_SIZE = 16,
+    UART_FIRST_PATTERN = 0x42,
+    UART_MOST_WAITING = 17,
+    UART_SECOND_PATTERN = 0x73,
+    UART_TEST_BYTE = 0x42
 };
 
 #ifdef U16550_CONSOLE_CONFIG
@@ -192,14 +188,6 @@ static inline void uart_device_write(uint8_t offset, uint8_t value)
     U16550_CONSOLE_WRITE(offset, value);
 }
 
-/* Why an initialisation failed. */
-enum uart_init_error {
-    UART_INIT_ERROR_NONE = 0,
-    UART_INIT_ERROR_DEVICE_NOT_PRESENT = 1,
-    UART_INIT_ERROR_INVALID_BAUD_RATE = 2,
-    UART_INIT_ERROR_STALLED = 3
-};
-
 /*
  * The number of characters in the receiver FIFO at which a DATA_READY interrupt is raised.
  *
@@ -218,72 +206,13 @@ struct u16550_core_maybe_fifo_trigger_level {
     uint8_t value; /* an enum u16550_core_fifo_trigger_level */
 };
 
-/* Why a port cannot be taken as it is. */
-enum uart_attach_error {
-    UART_ATTACH_ERROR_NONE = 0,
-    UART_ATTACH_ERROR_DIVISOR_LATCH_OPEN = 1,
-    UART_ATTACH_ERROR_LOOPBACK = 2,
-    UART_ATTACH_ERROR_NO_DIVISOR = 3
-};
-
-struct uart_pair_of_u8 {
-    uint8_t first;
-    uint8_t second;
-};
-
-struct uart_pair_of_u8_or_attach_error {
-    enum uart_attach_error error;
-    struct uart_pair_of_u8 value;
-};
-
-/* Why a loopback test failed. */
-enum uart_loopback_error {
-    UART_LOOPBACK_ERROR_NONE = 0,
-    UART_LOOPBACK_ERROR_SEND_ERROR = 1,
-    UART_LOOPBACK_ERROR_UNEXPECTED_LOOPBACK_BYTE = 2,
-    UART_LOOPBACK_ERROR_UNEXPECTED_LOOPBACK_MSG = 3,
-    UART_LOOPBACK_ERROR_STALLED = 4
-};
-
-struct uart_maybe_u8 {
-    bool is_some;
-    uint8_t value;
-};
-
-/* Why no byte can be sent at the moment. */
-enum uart_byte_send_error {
-    UART_BYTE_SEND_ERROR_NONE = 0,
-    UART_BYTE_SEND_ERROR_NO_CAPACITY = 1,
-    UART_BYTE_SEND_ERROR_REMOTE_NOT_CLEAR_TO_SEND = 2
-};
-
-struct uart_bytes1 {
-    uint8_t bytes[1];
+struct uart_latch {
+    uint8_t dll;
+    uint8_t dlm;
 };
 
 struct uart_bytes16 {
     uint8_t bytes[16];
-};
-
-struct uart_maybe_bytes16 {
-    bool is_some;
-    struct uart_bytes16 value;
-};
-
-struct uart_maybe_stalled_error {
-    bool is_error;
-    size_t error;
-};
-
-struct uart_maybe_u64 {
-    bool is_some;
-    uint64_t value;
-};
-
-struct uart_u64_or_stalled_error {
-    bool is_error;
-    size_t error;
-    uint64_t value;
 };
 
 struct uart_bytes3 {
@@ -292,8 +221,8 @@ struct uart_bytes3 {
 
 /* The bytes of one expansion, at most three. */
 struct uart_expansion {
-    struct uart_bytes3 first;
-    size_t second;
+    struct uart_bytes3 text;
+    size_t len;
 };
 
 /* Copies so many bytes between two places that do not overlap. */
@@ -320,125 +249,12 @@ static inline bool uart_same_bytes(const uint8_t *one, const uint8_t *other, siz
     return true;
 }
 
-static const uint8_t uart_echo_whole_bytes[16] =
-    { 104, 101, 108, 108, 111, 32, 119, 111, 114, 108, 100, 33, 49, 51, 51, 55 };
+static const uint8_t uart_test_message[16] =
+    { 'h', 'e', 'l', 'l', 'o', ' ', 'w', 'o', 'r', 'l', 'd', '!', '1', '3', '3', '7' };
 
-static const uint8_t uart_expansion_of_bytes[3] = { 8, 32, 8 };
+static const uint8_t uart_erase_text[3] = { '\b', ' ', '\b' };
 
-static const uint8_t uart_expansion_of_bytes2[3] = { 13, 10, 0 };
-
-static inline struct u16550_core_maybe_fifo_trigger_level uart_some_fifo_trigger_level(void)
-{
-    struct u16550_core_maybe_fifo_trigger_level made =
-        { true, U16550_CORE_FIFO_TRIGGER_LEVEL_FOURTEEN };
-    return made;
-}
-
-static inline struct uart_pair_of_u8_or_attach_error
-uart_bad_pair_of_u8_or_attach_error(enum uart_attach_error error)
-{
-    struct uart_pair_of_u8_or_attach_error made = { error, { 0, 0 } };
-    return made;
-}
-
-static inline struct uart_pair_of_u8 uart_make_pair_of_u8(uint8_t first, uint8_t second)
-{
-    struct uart_pair_of_u8 made = { first, second };
-    return made;
-}
-
-static inline struct uart_pair_of_u8_or_attach_error
-uart_good_pair_of_u8_or_attach_error(struct uart_pair_of_u8 value)
-{
-    struct uart_pair_of_u8_or_attach_error made = { UART_ATTACH_ERROR_NONE, value };
-    return made;
-}
-
-static inline struct uart_maybe_u8 uart_no_u8(void)
-{
-    struct uart_maybe_u8 made = { false, 0 };
-    return made;
-}
-
-static inline struct uart_maybe_u8 uart_some_u8(uint8_t value)
-{
-    struct uart_maybe_u8 made = { true, value };
-    return made;
-}
-
-static inline struct uart_maybe_u64 uart_no_u64(void)
-{
-    struct uart_maybe_u64 made = { false, 0 };
-    return made;
-}
-
-static inline struct uart_maybe_u64 uart_some_u64(uint64_t value)
-{
-    struct uart_maybe_u64 made = { true, value };
-    return made;
-}
-
-static inline struct uart_maybe_stalled_error uart_failed_stalled_error(size_t error)
-{
-    struct uart_maybe_stalled_error made = { true, error };
-    return made;
-}
-
-static inline struct uart_maybe_stalled_error uart_no_stalled_error(void)
-{
-    struct uart_maybe_stalled_error made = { false, 0 };
-    return made;
-}
-
-static inline struct uart_u64_or_stalled_error uart_bad_u64_or_stalled_error(size_t error)
-{
-    struct uart_u64_or_stalled_error made = { true, error, 0 };
-    return made;
-}
-
-static inline struct uart_u64_or_stalled_error uart_good_u64_or_stalled_error(uint64_t value)
-{
-    struct uart_u64_or_stalled_error made = { false, 0, value };
-    return made;
-}
-
-static inline struct uart_expansion uart_make_expansion(struct uart_bytes3 first, size_t second)
-{
-    struct uart_expansion made = { first, second };
-    return made;
-}
-
-/*
- * Returns the register with this word length. No other bit changes.
- *
- * The length is eight bits in each call, and so it is left out.
- *
- * Proved: the two bits from the lowest on are the code of this word length.
- * Proved: the eight bits are the same in both values, except those of a field.
- */
-static inline uint8_t uart_lcr_set_word_length(uint8_t lcr)
-{
-    return (lcr & 252) | 3;
-}
-
-/*
- * Returns the register with this parity. No other bit changes.
- *
- * The parity is disabled in each call, and so it is left out.
- *
- * Proved: the three bits from the lowest on are a code of this parity.
- * Proved: the eight bits are the same in both values, except those of a field.
- */
-static inline uint8_t uart_lcr_set_parity(uint8_t lcr)
-{
-    return (lcr & 199) | (uint8_t)(0 << 3);
-}
-
-/* Returns LCR for a configuration. */
-static inline uint8_t uart_frame_of(void)
-{
-    return uart_lcr_set_parity(uart_lcr_set_word_length(0));
-}
+static const uint8_t uart_newline_text[3] = { '\r', '\n', 0 };
 
 /*
  * Writes a pattern to the scratch register, and returns whether it reads back.
@@ -452,23 +268,21 @@ static inline bool uart_keeps(uint8_t pattern)
 }
 
 /*
- * Proved: the scratch register keeps both patterns; or it does not keep the first; or it
- * keeps the first and not the second.
+ * Proved: the scratch register keeps both patterns; or it does not keep the first; or it keeps the
+ * first and not the second.
  */
 static inline bool uart_keeps_patterns(void)
 {
-    if (!uart_keeps(66))
-        return false;
-    return uart_keeps(115);
+    return uart_keeps(UART_FIRST_PATTERN) && uart_keeps(UART_SECOND_PATTERN);
 }
 
 /*
- * Returns whether a device is present: whether its scratch register (SPR) keeps what is
- * written to it.
+ * Returns whether a device is present: whether its scratch register (SPR) keeps what is written to
+ * it.
  *
- * Reads SPR, writes a pattern and reads it back, tries a second pattern if the first was kept,
- * and restores SPR. Nothing else changes in the chip. Does not wait: makes 4 or 6 accesses.
- * init makes the same check.
+ * Reads SPR, writes a pattern and reads it back, tries a second pattern if the first was kept, and
+ * restores SPR. Nothing else changes in the chip. Does not wait: makes 4 or 6 accesses.
+ * u16550_console_init makes the same check.
  *
  * Proved: the scratch register is read, tested with the patterns, and restored.
  */
@@ -481,17 +295,16 @@ static inline bool uart_check_present(void)
 }
 
 /*
- * Turns interrupts off, and sets the divisor and the frame. A character that is going out has
- * the new ones from then on, so the remote gets it corrupted. No wait of init prevents that:
- * call flush before, if it matters.
+ * Turns interrupts off, and sets the divisor and the frame. A character that is going out has the
+ * new ones from then on, so the remote gets it corrupted.
  */
 static void uart_set_line(uint16_t divisor, uint8_t frame)
 {
     uart_device_write(UART_LCR, 0);
     uart_device_write(UART_IER, 0);
     uart_device_write(UART_LCR, U16550_LCR_DLAB);
-    uart_device_write(UART_DATA, (uint8_t)(uint16_t)(divisor % 256));
-    uart_device_write(UART_IER, (uint8_t)(uint16_t)(divisor / 256));
+    uart_device_write(UART_DLL, (uint8_t)(divisor & 0xff));
+    uart_device_write(UART_DLM, (uint8_t)(divisor >> 8));
     uart_device_write(UART_LCR, 0);
     uart_device_write(UART_LCR, frame);
 }
@@ -499,36 +312,37 @@ static void uart_set_line(uint16_t divisor, uint8_t frame)
 /*
  * Returns the code of this trigger level, in the low two bits.
  *
- * Proved: the two bits from the lowest on are the code of this trigger level.
+ * Proved: the field is the code of this trigger level.
  */
-static uint8_t uart_fifo_trigger_level_to_raw_bits(uint8_t fifo_trigger_level)
+static uint8_t uart_fifo_trigger_level_code(uint8_t fifo_trigger_level)
 {
     switch (fifo_trigger_level) {
     case U16550_CORE_FIFO_TRIGGER_LEVEL_ONE:
-        return 0;
+        return 0x00;
     case U16550_CORE_FIFO_TRIGGER_LEVEL_FOUR:
-        return 1;
+        return 0x01;
     case U16550_CORE_FIFO_TRIGGER_LEVEL_EIGHT:
-        return 2;
+        return 0x02;
     case U16550_CORE_FIFO_TRIGGER_LEVEL_FOURTEEN:
     default:
-        return 3;
+        return 0x03;
     }
 }
 
 /*
  * Returns the register with this trigger level. No other bit changes.
  *
- * Proved: the two bits from the lowest on are the code of this trigger level.
- * Proved: the eight bits are the same in both values, except those of a field.
+ * Proved: the field is the code of this trigger level.
+ * Proved: no other bit changes.
  */
 static inline uint8_t uart_fcr_set_fifo_trigger_level(uint8_t fcr, uint8_t level)
 {
-    return (fcr & 63) | (uint8_t)(uart_fifo_trigger_level_to_raw_bits(level) << 6);
+    return (fcr & (uint8_t)~U16550_FCR_RX_FIFO_TRIGGER_LEVEL) |
+        (uint8_t)(uart_fifo_trigger_level_code(level) << 6);
 }
 
 /* Returns FCR for a trigger level. */
-static inline uint8_t uart_fifo_control_of(struct u16550_core_maybe_fifo_trigger_level level)
+static inline uint8_t uart_fcr_of_level(struct u16550_core_maybe_fifo_trigger_level level)
 {
     uint8_t resets = U16550_FCR_RX_FIFO_RESET | U16550_FCR_TX_FIFO_RESET;
     if (level.is_some)
@@ -539,34 +353,32 @@ static inline uint8_t uart_fifo_control_of(struct u16550_core_maybe_fifo_trigger
 /* Returns whether the FIFOs are on and work: bits 6 and 7 are both set then. */
 static inline bool uart_isr_fifo_enabled(uint8_t isr)
 {
-    return (isr & (U16550_ISR_FIFOS_ENABLED0 | U16550_ISR_FIFOS_ENABLED1)) ==
-        (U16550_ISR_FIFOS_ENABLED0 | U16550_ISR_FIFOS_ENABLED1);
+    return (isr & U16550_ISR_FIFOS_ENABLED) == U16550_ISR_FIFOS_ENABLED;
 }
 
 /*
  * Resets the FIFOs, enables them if there is a level, and returns whether they are on then.
  *
- * Proved: the FIFO step: FCR is written and, if a level is configured, ISR shows whether the
- * FIFO is on.
+ * Proved: the FIFO step: FCR is written and, if a level is configured, ISR shows whether the FIFO
+ * is on.
  */
 static inline bool uart_set_fifo(struct u16550_core_maybe_fifo_trigger_level level)
 {
-    uart_device_write(UART_FCR, uart_fifo_control_of(level));
+    uart_device_write(UART_FCR, uart_fcr_of_level(level));
     return level.is_some && uart_isr_fifo_enabled(uart_device_read(UART_ISR));
 }
 
 /*
- * Discards received bytes until none is available, or as many as the receiver can hold. More
- * are not discarded: a remote that never stops sending must not hold init for ever. What the
- * reads clear is not saved, since those errors are of bytes that nobody gets.
+ * Discards received bytes until none is available, or as many as the receiver can hold. More are
+ * not discarded: a remote that never stops sending must not hold u16550_console_init for ever.
+ * What the reads clear is not saved, since those errors are of bytes that nobody gets.
  *
- * Proved: a list of the language whose reads are not saved.
- * Proved: received bytes are discarded until none is available, or as many as the receiver
- * can hold.
+ * Proved: received bytes are discarded until none is available, or as many as the receiver can
+ * hold.
  */
 static inline void uart_drain(void)
 {
-    for (uint32_t turn = 0; turn < 17; turn++) {
+    for (uint32_t turn = 0; turn < UART_MOST_WAITING; turn++) {
         if ((uart_device_read(UART_LSR) & U16550_LSR_DATA_READY) == 0)
             return;
         uart_device_read(UART_DATA);
@@ -577,8 +389,7 @@ static inline void uart_drain(void)
 static inline uint8_t uart_read_lsr(struct u16550_console *uart)
 {
     uint8_t lsr = uart_device_read(UART_LSR);
-    uart->saved_lsr |= lsr & (U16550_LSR_OVERRUN_ERROR | U16550_LSR_PARITY_ERROR |
-        U16550_LSR_FRAMING_ERROR | U16550_LSR_BREAK_INTERRUPT);
+    uart->saved_lsr |= lsr & U16550_LSR_LINE_ERRORS;
     return lsr;
 }
 
@@ -586,8 +397,8 @@ static inline uint8_t uart_read_lsr(struct u16550_console *uart)
  * Polls LSR until it shows these bits, or until the limit. Each wait has a loop of its own over
  * the limit, so the polls that count are those in a row: progress begins a new count.
  *
- * Proved: a wait for these bits of LSR: fewer reads without them than the limit and then one
- * with them; or as many without them.
+ * Proved: a wait for these bits of LSR: fewer reads without them than the limit and then one with
+ * them; or as many without them.
  */
 static inline bool uart_wait_for(struct u16550_console *uart, uint8_t bits)
 {
@@ -599,9 +410,9 @@ static inline bool uart_wait_for(struct u16550_console *uart, uint8_t bits)
 }
 
 /*
- * Reads the statuses without saving them, and enables the configured interrupts.
+ * Reads the statuses without saving them, and enables no interrupt.
  *
- * Proved: the statuses are read without being saved, and the interrupts enabled.
+ * Proved: the statuses are read without being saved, and 0 is written to IER.
  */
 static inline void uart_finish_init(struct u16550_console *uart)
 {
@@ -613,181 +424,176 @@ static inline void uart_finish_init(struct u16550_console *uart)
 }
 
 /*
- * Initialises the device with this configuration, whose divisor this is. This is a function of
- * its own for callers that have tested the configuration already, and so have its divisor.
+ * Initialises the device with this divisor.
  *
- * Proved: the configuration is stored, the scratch register tested, divisor, frame and FIFO
- * are set, the receiver is drained, and MCR is written; after a wait for an empty
- * transmitter the statuses are read, and IER is written. Or nothing is done, if there is no
- * divisor; or all up to the test that fails, or to the wait that reaches the limit.
+ * Proved: the scratch register is tested, divisor, frame and FIFO are set, the receiver is
+ * drained, and MCR is written; after a wait for an empty transmitter the statuses are read, and
+ * IER is written. Or all is done up to the test that fails, or to the wait that reaches the limit.
  */
-static enum uart_init_error uart_set_up(struct u16550_console *uart, uint16_t divisor)
+static int uart_set_up(struct u16550_console *uart, uint16_t divisor)
 {
-    uint8_t frame = uart_frame_of();
-    struct u16550_core_maybe_fifo_trigger_level level = uart_some_fifo_trigger_level();
+    struct u16550_core_maybe_fifo_trigger_level level =
+        { true, U16550_CORE_FIFO_TRIGGER_LEVEL_FOURTEEN };
     if (!uart_check_present())
-        return UART_INIT_ERROR_DEVICE_NOT_PRESENT;
-    uart_set_line(divisor, frame);
+        return U16550_CONSOLE_DEVICE_NOT_PRESENT;
+    uart_set_line(divisor, U16550_LCR_8N1);
     uart->fifo_enabled = uart_set_fifo(level);
     uart_drain();
     uart_device_write(UART_MCR,
         U16550_MCR_DTR | U16550_MCR_RTS | U16550_MCR_OUT_2_INT_ENABLE);
     if (!uart_wait_for(uart, U16550_LSR_TRANSMITTER_EMPTY))
-        return UART_INIT_ERROR_STALLED;
+        return U16550_CONSOLE_INIT_STALLED;
     uart_finish_init(uart);
-    return UART_INIT_ERROR_NONE;
+    return U16550_CONSOLE_OK;
 }
 
 /*
  * Reads and returns the divisor latch, low byte first.
  *
- * Sets DLAB in LCR for the two reads, and then writes LCR back. In between offsets 0 and 1 are
- * the latch, so nothing else may access the chip: neither data nor IER can be reached.
+ * Sets DLAB in LCR for the two reads, and then writes LCR back. In between offsets 0 and 1 are the
+ * latch, so nothing else may access the chip: neither data nor IER can be reached.
  *
- * Proved: LCR is read, and written with DLAB; the divisor latch is read, its low byte first;
- * and LCR is written back.
+ * Proved: LCR is read, and written with DLAB; the divisor latch is read, its low byte first; and
+ * LCR is written back.
  */
-static inline struct uart_pair_of_u8 uart_dll_dlm(void)
+static struct uart_latch uart_dll_dlm(void)
 {
     uint8_t lcr = uart_device_read(UART_LCR);
     uart_device_write(UART_LCR, lcr | U16550_LCR_DLAB);
-    uint8_t dll = uart_device_read(UART_DATA);
-    uint8_t dlm = uart_device_read(UART_IER);
+    uint8_t dll = uart_device_read(UART_DLL);
+    uint8_t dlm = uart_device_read(UART_DLM);
     uart_device_write(UART_LCR, lcr);
-    return uart_make_pair_of_u8(dll, dlm);
+    struct uart_latch latch = { dll, dlm };
+    return latch;
 }
 
 /*
- * Takes a port as it was set up, for example by firmware, in place of init: finds out
- * whether the FIFOs are on, and returns the divisor latch, low byte first. It is not 0.
+ * Takes a port as it was set up, for example by firmware, in place of u16550_console_init: finds
+ * out whether the FIFOs are on, and returns the divisor latch, low byte first. It is not 0.
  *
- * Reads LCR and MCR, then the divisor latch as dll_dlm does, which writes LCR and restores
- * it, and then ISR. Nothing else is written. The read of ISR acknowledges a THR_EMPTY
- * interrupt. Afterwards fifo_enabled is as ISR showed. config is not changed, since the
- * clock of the chip is not known: it does not say what the chip has.
+ * Reads LCR and MCR, then the divisor latch as uart_dll_dlm does, which writes LCR and restores
+ * it, and then ISR. Nothing else is written. The read of ISR acknowledges a THR_EMPTY interrupt.
+ * Afterwards fifo_enabled is as ISR showed.
  *
  * Errors
  *
- * - DivisorLatchOpen if DLAB is set.
- * - Loopback if DLAB is clear, and the chip is in loopback.
- * - NoDivisor if neither is so, and the divisor latch reads as 0: no port is set up there,
- *   or there is none. So a bus where all registers read as 0 is refused.
+ * - U16550_CONSOLE_DIVISOR_LATCH_OPEN if DLAB is set.
+ * - U16550_CONSOLE_LOOPBACK if DLAB is clear, and the chip is in loopback.
+ * - U16550_CONSOLE_NO_DIVISOR if neither is so, and the divisor latch reads as 0: no port is set
+ *   up there, or there is none. So a bus where all registers read as 0 is refused.
  *
- * ISR was not read then, so no interrupt was acknowledged, and the driver is unchanged. For
- * the first two only LCR and MCR were read, and nothing was written. For NoDivisor DLAB was
- * set for the look at the latch, and LCR written back.
+ * ISR was not read then, so no interrupt was acknowledged, and the driver is unchanged. For the
+ * first two only LCR and MCR were read, and nothing was written. For U16550_CONSOLE_NO_DIVISOR
+ * DLAB was set for the look at the latch, and LCR written back.
  *
- * Proved: LCR shows that DLAB is off, MCR that loopback is off, the divisor latch a divisor,
- * and ISR whether the FIFOs are on, which the driver takes them to be; or these are read up
- * to the one that the error is about, and the driver stays as it was.
+ * Proved: LCR shows that DLAB is off, MCR that loopback is off, the divisor latch a divisor, and
+ * ISR whether the FIFOs are on, which the driver takes them to be; or these are read up to the one
+ * that the error is about, and the driver stays as it was.
  */
-static struct uart_pair_of_u8_or_attach_error uart_attach(struct u16550_console *uart)
+static int uart_attach(struct u16550_console *uart, struct uart_latch *latch)
 {
     if ((uart_device_read(UART_LCR) & U16550_LCR_DLAB) != 0)
-        return uart_bad_pair_of_u8_or_attach_error(UART_ATTACH_ERROR_DIVISOR_LATCH_OPEN);
+        return U16550_CONSOLE_DIVISOR_LATCH_OPEN;
     if ((uart_device_read(UART_MCR) & U16550_MCR_LOOP_BACK) != 0)
-        return uart_bad_pair_of_u8_or_attach_error(UART_ATTACH_ERROR_LOOPBACK);
-    struct uart_pair_of_u8 pair = uart_dll_dlm();
-    if (pair.first == 0 && pair.second == 0)
-        return uart_bad_pair_of_u8_or_attach_error(UART_ATTACH_ERROR_NO_DIVISOR);
+        return U16550_CONSOLE_LOOPBACK;
+    struct uart_latch found_latch = uart_dll_dlm();
+    if (found_latch.dll == 0 && found_latch.dlm == 0)
+        return U16550_CONSOLE_NO_DIVISOR;
     uart->fifo_enabled = uart_isr_fifo_enabled(uart_device_read(UART_ISR));
-    return uart_good_pair_of_u8_or_attach_error(uart_make_pair_of_u8(pair.first, pair.second));
+    *latch = found_latch;
+    return U16550_CONSOLE_OK;
 }
 
 /*
  * Reads the modem lines, and sets the device to loopback with interrupts off, and with FIFOs of
  * this level, if there is one.
  *
- * The level is fourteen in each call, and so it is left out.
- *
- * Proved: MSR is read, interrupts are switched off, loopback is switched on, and the FIFO
- * step is made with this level.
+ * Proved: MSR is read, interrupts are switched off, loopback is switched on, and the FIFO step is
+ * made with this level.
  */
-static inline uint8_t uart_enter_loopback(struct u16550_console *uart)
+static inline uint8_t
+uart_enter_loopback(struct u16550_console *uart,
+    struct u16550_core_maybe_fifo_trigger_level level)
 {
     uint8_t before = uart_device_read(UART_MSR);
     uart_device_write(UART_IER, 0);
     uart_device_write(UART_MCR, U16550_MCR_LOOP_BACK);
-    uart->fifo_enabled = uart_set_fifo(uart_some_fifo_trigger_level());
+    uart->fifo_enabled = uart_set_fifo(level);
     return before;
 }
 
 /*
  * Checks whether a received byte is available: whether LSR shows DATA_READY.
  *
- * Does not wait: reads LSR once. The error bits that this clears are saved for the next lsr.
+ * Does not wait: reads LSR once. The error bits that this clears are saved for the next
+ * u16550_console_lsr.
  *
  * Errors
  *
- * ByteReceiveError if no byte is available.
+ * false if no byte is available.
  *
- * Proved: one read of LSR, which shows a received byte exactly if the result is Ok.
+ * Proved: one read of LSR, which shows a received byte exactly if the result is true.
  */
 static inline bool uart_ready_to_receive(struct u16550_console *uart)
 {
-    if ((uart_read_lsr(uart) & U16550_LSR_DATA_READY) == 0)
-        return false;
-    return true;
+    return (uart_read_lsr(uart) & U16550_LSR_DATA_READY) != 0;
 }
 
 /*
  * Receives one byte if one is available: reads LSR, and if it shows DATA_READY, RBR.
  *
- * Does not wait. The error bits that the read of LSR clears are saved for the next lsr; they
- * belong to the byte that is then received, except for an overrun.
+ * Does not wait. The error bits that the read of LSR clears are saved for the next
+ * u16550_console_lsr; they belong to the byte that is then received, except for an overrun.
  *
  * Errors
  *
- * ByteReceiveError if no byte is available. RBR was not read then.
+ * false if no byte is available. RBR was not read then.
  *
- * Proved: LSR shows a received byte, which is read from DATA and returned; or LSR shows
- * none.
+ * Proved: LSR shows a received byte, which is read from DATA and returned; or LSR shows none.
  */
-static inline struct uart_maybe_u8 uart_try_receive_byte(struct u16550_console *uart)
+static inline bool uart_try_receive_byte(struct u16550_console *uart, uint8_t *byte)
 {
     if (!uart_ready_to_receive(uart))
-        return uart_no_u8();
-    return uart_some_u8(uart_device_read(UART_DATA));
+        return false;
+    *byte = uart_device_read(UART_DATA);
+    return true;
 }
 
 /*
- * Discards received bytes until none is available: a byte from before the test would be taken
- * for the first that returns. Returns false after as many bytes as the spin limit, right after
- * the last of them. So with a limit of 1 one byte is too many, even if none is behind it.
+ * Discards received bytes until none is available: a byte from before the test would be taken for
+ * the first that returns. Returns false after as many bytes as the spin limit, right after the
+ * last of them. So with a limit of 1 one byte is too many, even if none is behind it.
  *
- * Proved: bytes that were received before the test are taken until none is available; or as
- * many as the limit were taken.
+ * Proved: bytes that were received before the test are taken until none is available; or as many
+ * as the limit were taken.
  */
 static inline bool uart_drain_received(struct u16550_console *uart)
 {
     for (uint32_t turn = 0; turn < U16550_CONSOLE_POLLS; turn++) {
-        if (!uart_try_receive_byte(uart).is_some)
+        uint8_t byte;
+        if (!uart_try_receive_byte(uart, &byte))
             return true;
     }
     return false;
 }
 
 /*
- * Checks whether a byte can be sent now: whether LSR shows THR_EMPTY and, if the
- * configuration checks CTS, the remote is clear to send.
+ * Checks whether a byte can be sent now: whether LSR shows THR_EMPTY.
  *
- * Does not wait: reads LSR once. If the configuration checks CTS and THR is empty, it also
- * reads MCR and, unless that shows loopback, MSR. The errors and changes that these reads
- * clear are saved for the next lsr and msr.
+ * Does not wait: reads LSR once. The errors that this clears are saved for the next
+ * u16550_console_lsr.
  *
  * Errors
  *
- * - NoCapacity if THR, or the transmitter FIFO, is not empty.
- * - RemoteNotClearToSend if it is empty, but the remote does not assert CTS.
+ * - U16550_CONSOLE_NO_CAPACITY if THR, or the transmitter FIFO, is not empty.
  *
- * Proved: one send check: LSR shows THR_EMPTY and, if CTS is checked, the modem lines allow
- * sending; or the error names which of these is not so.
+ * Proved: one send check: LSR shows THR_EMPTY, or does not.
  */
-static inline enum uart_byte_send_error uart_ready_to_send(struct u16550_console *uart)
+static inline int uart_ready_to_send(struct u16550_console *uart)
 {
     if ((uart_read_lsr(uart) & U16550_LSR_THR_EMPTY) == 0)
-        return UART_BYTE_SEND_ERROR_NO_CAPACITY;
-    return UART_BYTE_SEND_ERROR_NONE;
+        return U16550_CONSOLE_NO_CAPACITY;
+    return U16550_CONSOLE_OK;
 }
 
 /* Writes the bytes to DATA in order. */
@@ -800,15 +606,15 @@ static inline void uart_write_data(const uint8_t *bytes, size_t bytes_len)
 /* Writes bytes from the front to DATA, at most so many, and returns how many. */
 static inline size_t uart_write_up_to(size_t limit, const uint8_t *bytes, size_t bytes_len)
 {
-    size_t number = limit < bytes_len ? limit : bytes_len;
-    uart_write_data(bytes, number);
-    return number;
+    size_t count = limit < bytes_len ? limit : bytes_len;
+    uart_write_data(bytes, count);
+    return count;
 }
 
 /*
- * Writes one burst from the front to DATA, and returns its length: as many bytes as certainly
- * fit. LSR shows whether the FIFO is empty, and no register shows how full it is. One byte more
- * could be lost, and nothing would tell.
+ * Writes one burst from the front to DATA, and returns its length: as many bytes as certainly fit.
+ * LSR shows whether the FIFO is empty, and no register shows how full it is. One byte more could
+ * be lost, and nothing would tell.
  *
  * A whole burst of 16, the size of most chips, is apart, since its length is known to the
  * compiler: it then counts no bytes.
@@ -820,58 +626,52 @@ uart_write_burst(struct u16550_console *uart, const uint8_t *bytes, size_t bytes
         uart_device_write(UART_DATA, bytes[0]);
         return 1;
     }
-    const uint8_t *found = bytes_len >= 16 ? bytes : NULL;
-    if (found != NULL) {
-        uart_write_data(found, 16);
-        return 16;
+    if (bytes_len >= UART_FIFO_SIZE) {
+        uart_write_data(bytes, UART_FIFO_SIZE);
+        return UART_FIFO_SIZE;
     }
-    return uart_write_up_to(16, bytes, bytes_len);
+    return uart_write_up_to(UART_FIFO_SIZE, bytes, bytes_len);
 }
 
 /*
- * Sends bytes from the front of the slice if there is room, and returns how many: up to as
- * many as the FIFO holds (fifo_size) if it is on, else one; 0 if ready_to_send fails.
+ * Sends bytes from the front of the array if there is room, and returns how many: up to as many as
+ * the FIFO holds if it is on, else one; 0 if uart_ready_to_send fails.
  *
- * Does not wait: makes one check as ready_to_send, and one burst of writes to THR. The chip
- * reports only an empty FIFO, not how full it is, so nothing is sent until the last burst has
- * left the FIFO. Call it again with the rest of the slice to send more. An empty slice makes
- * no access.
+ * Does not wait: makes one check as uart_ready_to_send, and one burst of writes to THR. The chip
+ * reports only an empty FIFO, not how full it is, so nothing is sent until the last burst has left
+ * the FIFO. Call it again with the rest of the array to send more. An empty array makes no access.
  *
- * Proved: nothing if there are no bytes; else a send check and, if it succeeds, bytes from
- * the front are written to DATA: as many as a FIFO of the size that is set holds, or one if
- * it is off. The result is how many.
+ * Proved: nothing if there are no bytes; else a send check and, if it succeeds, bytes from the
+ * front are written to DATA: as many as the FIFO holds, or one if it is off. The result is how
+ * many.
  */
 static inline size_t
 uart_send_bytes(struct u16550_console *uart, const uint8_t *buffer, size_t buffer_len)
 {
     if (buffer_len == 0)
         return 0;
-    if (uart_ready_to_send(uart) != UART_BYTE_SEND_ERROR_NONE)
+    if (uart_ready_to_send(uart) != U16550_CONSOLE_OK)
         return 0;
     return uart_write_burst(uart, buffer, buffer_len);
 }
 
 /*
- * Sends one byte if there is room: makes one check as ready_to_send, and one write to THR.
+ * Sends one byte if there is room: makes one check as uart_ready_to_send, and one write to THR.
  *
  * Does not wait.
  *
  * Errors
  *
- * NoCapacity if the byte was not sent, whatever the cause: also if the remote is not clear
- * to send.
+ * U16550_CONSOLE_NO_CAPACITY if the byte was not sent, whatever the cause.
  *
- * Proved: the accesses of send_bytes for this one byte, which is sent exactly if the result
- * is Ok; the only error is NoCapacity.
+ * Proved: the accesses of uart_send_bytes for this one byte, which is sent exactly if the result
+ * is U16550_CONSOLE_OK; the only error is U16550_CONSOLE_NO_CAPACITY.
  */
-static inline enum uart_byte_send_error
-uart_try_send_byte(struct u16550_console *uart, uint8_t byte)
+static inline int uart_try_send_byte(struct u16550_console *uart, uint8_t byte)
 {
-    struct uart_bytes1 bytes;
-    bytes.bytes[0] = byte;
-    if (uart_send_bytes(uart, bytes.bytes, 1) == 0)
-        return UART_BYTE_SEND_ERROR_NO_CAPACITY;
-    return UART_BYTE_SEND_ERROR_NONE;
+    if (uart_send_bytes(uart, &byte, 1) == 0)
+        return U16550_CONSOLE_NO_CAPACITY;
+    return U16550_CONSOLE_OK;
 }
 
 /*
@@ -880,17 +680,15 @@ uart_try_send_byte(struct u16550_console *uart, uint8_t byte)
  *
  * Proved: a wait for one byte: it was received, or there were as many misses as the limit.
  */
-static inline struct uart_maybe_u8 uart_receive_one(struct u16550_console *uart)
+static inline bool uart_receive_one(struct u16550_console *uart, uint8_t *byte)
 {
-    struct uart_maybe_u8 found = uart_try_receive_byte(uart);
-    if (found.is_some)
-        return uart_some_u8(found.value);
+    if (uart_try_receive_byte(uart, byte))
+        return true;
     for (uint32_t turn = 1; turn < U16550_CONSOLE_POLLS; turn++) {
-        struct uart_maybe_u8 found2 = uart_try_receive_byte(uart);
-        if (found2.is_some)
-            return uart_some_u8(found2.value);
+        if (uart_try_receive_byte(uart, byte))
+            return true;
     }
-    return uart_no_u8();
+    return false;
 }
 
 /*
@@ -899,31 +697,30 @@ static inline struct uart_maybe_u8 uart_receive_one(struct u16550_console *uart)
  * Proved: the test byte: it is sent and comes back; or it is not sent; or the wait for it is
  * unsuccessful; or another byte comes back.
  */
-static enum uart_loopback_error uart_exchange_byte(struct u16550_console *uart)
+static int uart_exchange_byte(struct u16550_console *uart)
 {
-    if (uart_try_send_byte(uart, 66) != UART_BYTE_SEND_ERROR_NONE)
-        return UART_LOOPBACK_ERROR_SEND_ERROR;
-    struct uart_maybe_u8 found = uart_receive_one(uart);
-    if (!found.is_some)
-        return UART_LOOPBACK_ERROR_STALLED;
-    if (found.value == 66)
-        return UART_LOOPBACK_ERROR_NONE;
-    return UART_LOOPBACK_ERROR_UNEXPECTED_LOOPBACK_BYTE;
+    if (uart_try_send_byte(uart, UART_TEST_BYTE) != U16550_CONSOLE_OK)
+        return U16550_CONSOLE_LOOPBACK_NO_CAPACITY;
+    uint8_t byte;
+    if (!uart_receive_one(uart, &byte))
+        return U16550_CONSOLE_LOOPBACK_STALLED;
+    if (byte != UART_TEST_BYTE)
+        return U16550_CONSOLE_LOOPBACK_UNEXPECTED_BYTE;
+    return U16550_CONSOLE_OK;
 }
 
 /*
- * Waits until bytes may be written. The check stands once: where code is to be small, the
- * compiler then inlines it, and drops what a constant configuration does not ask for. Waiting
- * and writing are two functions, and this one is inlined, so that each loop that sends holds
- * one copy of the wait.
+ * Waits until bytes may be written. The check stands once: where code is to be small, the compiler
+ * then inlines it. Waiting and writing are two functions, and this one is inlined, so that each
+ * loop that sends holds one copy of the wait.
  *
- * Proved: a wait for room: a check succeeded after fewer misses in a row than the limit, or
- * there were as many misses.
+ * Proved: a wait for room: a check succeeded after fewer misses in a row than the limit, or there
+ * were as many misses.
  */
 static inline bool uart_wait_to_send(struct u16550_console *uart)
 {
     for (uint32_t check = 0; check < U16550_CONSOLE_POLLS; check++) {
-        if (uart_ready_to_send(uart) == UART_BYTE_SEND_ERROR_NONE)
+        if (uart_ready_to_send(uart) == U16550_CONSOLE_OK)
             return true;
     }
     return false;
@@ -932,291 +729,249 @@ static inline bool uart_wait_to_send(struct u16550_console *uart)
 /*
  * Waits until a burst was sent, and returns its length.
  *
- * Proved: a wait for one burst: k of the bytes were sent, or there were as many misses as
- * the limit.
+ * Proved: a wait for one burst: k of the bytes were sent, or there were as many misses as the
+ * limit.
  */
-static inline struct uart_maybe_u64
-uart_send_some(struct u16550_console *uart, const uint8_t *bytes, size_t bytes_len)
+static inline bool
+uart_send_some(struct u16550_console *uart, const uint8_t *bytes, size_t bytes_len,
+    size_t *count)
 {
     if (!uart_wait_to_send(uart))
-        return uart_no_u64();
-    return uart_some_u64(uart_write_burst(uart, bytes, bytes_len));
+        return false;
+    *count = uart_write_burst(uart, bytes, bytes_len);
+    return true;
 }
 
 /*
- * Sends all of the bytes, and waits for room before each burst: of up to as many bytes as the
- * FIFO holds (fifo_size) if it is on, else of one.
+ * Sends all of the bytes, and waits for room before each burst: of up to as many bytes as the FIFO
+ * holds if it is on, else of one.
  *
- * Each wait makes at most spin_limit checks as ready_to_send. It returns when the last
- * burst is in THR or the FIFO; flush of embedded_io waits until all
- * of it has left the chip. An empty slice makes no access.
+ * Each wait makes at most U16550_CONSOLE_POLLS checks as uart_ready_to_send. It returns when the
+ * last burst is in THR or the FIFO. An empty array makes no access.
  *
  * Errors
  *
- * StalledError after spin_limit unsuccessful checks in a row: the chip is slower than the
- * limit allows, or CTS is checked and the remote is not clear to send. The first done bytes
- * were written to the chip.
+ * U16550_CONSOLE_STALLED after U16550_CONSOLE_POLLS unsuccessful checks in a row: the chip is
+ * slower than the limit allows. The first done bytes were written to the chip.
  *
- * Proved: all bytes, burst by burst, each burst after its own wait; or those before the
- * burst whose wait reaches the limit, as many as the error reports.
+ * Proved: all bytes, burst by burst, each burst after its own wait; or those before the burst
+ * whose wait reaches the limit, as many as the error reports.
  */
-static struct uart_maybe_stalled_error
-uart_send_bytes_exact(struct u16550_console *uart, const uint8_t *bytes, size_t bytes_len)
+static int
+uart_send_bytes_exact(struct u16550_console *uart, const uint8_t *bytes, size_t bytes_len,
+    size_t *stalled_at)
 {
     size_t done = 0;
     while (done < bytes_len) {
-        struct uart_maybe_u64 found = uart_send_some(uart, &bytes[done], bytes_len - done);
-        if (!found.is_some)
-            return uart_failed_stalled_error(done);
-        done += (size_t)found.value;
+        size_t count;
+        if (!uart_send_some(uart, &bytes[done], bytes_len - done, &count)) {
+            *stalled_at = done;
+            return U16550_CONSOLE_STALLED;
+        }
+        done += count;
     }
-    return uart_no_stalled_error();
+    return U16550_CONSOLE_OK;
 }
 
 /*
  * Receives a byte into each slot, and waits for each.
  *
- * Each wait makes at most spin_limit polls of LSR. Error bits are saved for the next lsr,
- * and do not end the call. An empty slice makes no access. If the chip is gone, bytes of FF
- * are received: is_gone tells.
+ * Each wait makes at most U16550_CONSOLE_POLLS polls of LSR. Error bits are saved for the next
+ * u16550_console_lsr, and do not end the call. An empty array makes no access. If the chip is
+ * gone, bytes of FF are received.
  *
  * Errors
  *
- * StalledError after spin_limit unsuccessful polls in a row: the remote sent nothing for
- * so long. The first done slots have the bytes that were received, and the other slots are
- * unchanged.
+ * U16550_CONSOLE_STALLED after U16550_CONSOLE_POLLS unsuccessful polls in a row: the remote sent
+ * nothing for so long. The first done slots have the bytes that were received, and the other slots
+ * are unchanged.
  *
  * Proved: the slots are filled, each after its own wait; or those before the one whose wait
  * reaches the limit, as many as the error reports.
  */
-static struct uart_maybe_stalled_error
-uart_receive_bytes_exact(struct u16550_console *uart, uint8_t *buffer, size_t buffer_len)
+static int
+uart_receive_bytes_exact(struct u16550_console *uart, uint8_t *buffer, size_t buffer_len,
+    size_t *stalled_at)
 {
     for (size_t done = 0; done < buffer_len; done++) {
-        struct uart_maybe_u8 found = uart_receive_one(uart);
-        if (!found.is_some)
-            return uart_failed_stalled_error(done);
-        buffer[done] = found.value;
+        uint8_t byte;
+        if (!uart_receive_one(uart, &byte)) {
+            *stalled_at = done;
+            return U16550_CONSOLE_STALLED;
+        }
+        buffer[done] = byte;
     }
-    return uart_no_stalled_error();
+    return U16550_CONSOLE_OK;
 }
 
 /*
  * Sends the whole test message, and then receives it. A FIFO has room for all of it.
  *
- * Proved: what came back for these bytes, or nothing if a wait was unsuccessful, with a FIFO
- * and without; the one of the two that fits.
+ * Proved: what came back for these bytes, or nothing if a wait was unsuccessful, with a FIFO and
+ * without; the one of the two that fits.
  */
-static struct uart_maybe_bytes16 uart_echo_whole(struct u16550_console *uart)
+static inline bool uart_echo_whole(struct u16550_console *uart, struct uart_bytes16 *actual)
 {
-    struct uart_maybe_bytes16 made;
-    if (uart_send_bytes_exact(uart, uart_echo_whole_bytes, 16).is_error) {
-        made.is_some = false;
-        return made;
-    }
-    uart_fill_bytes(made.value.bytes, 0, 16);
-    if (uart_receive_bytes_exact(uart, made.value.bytes, 16).is_error) {
-        made.is_some = false;
-        return made;
-    }
-    made.is_some = true;
-    return made;
+    size_t stalled_at;
+    if (uart_send_bytes_exact(uart, uart_test_message, 16, &stalled_at) != U16550_CONSOLE_OK)
+        return false;
+    uart_fill_bytes(actual->bytes, 0, 16);
+    return uart_receive_bytes_exact(uart, actual->bytes, 16, &stalled_at) == U16550_CONSOLE_OK;
 }
 
 /*
- * Sends a byte, and waits for the byte that returns. On a real chip it returns after the time
- * of a character, and not at once.
+ * Sends a byte, and waits for the byte that returns. On a real chip it returns after the time of a
+ * character, and not at once.
  *
  * Proved: what came back for a byte, or nothing if a wait was unsuccessful.
  */
-static inline struct uart_maybe_u8 uart_echo(struct u16550_console *uart, uint8_t byte)
+static inline bool uart_echo(struct u16550_console *uart, uint8_t byte, uint8_t *byte_of)
 {
-    struct uart_bytes1 bytes;
-    bytes.bytes[0] = byte;
-    if (!uart_send_some(uart, bytes.bytes, 1).is_some)
-        return uart_no_u8();
-    return uart_receive_one(uart);
+    size_t count;
+    return uart_send_some(uart, &byte, 1, &count) && uart_receive_one(uart, byte_of);
 }
 
 /*
- * Sends the test message byte by byte, and waits for each to return. Without FIFO the receiver
- * has room for one character, and the next would replace it.
+ * Sends the test message byte by byte, and waits for each to return. Without FIFO the receiver has
+ * room for one character, and the next would replace it.
  */
-static struct uart_maybe_bytes16 uart_echo_each(struct u16550_console *uart)
+static bool uart_echo_each(struct u16550_console *uart, struct uart_bytes16 *actual)
 {
-    struct uart_maybe_bytes16 made;
-    uart_fill_bytes(made.value.bytes, 0, 16);
+    uart_fill_bytes(actual->bytes, 0, 16);
     for (size_t i = 0; i < 16; i++) {
-        struct uart_maybe_u8 found = uart_echo(uart, uart_echo_whole_bytes[i]);
-        if (!found.is_some) {
-            made.is_some = false;
-            return made;
-        }
-        made.value.bytes[i] = found.value;
+        uint8_t byte;
+        if (!uart_echo(uart, uart_test_message[i], &byte))
+            return false;
+        actual->bytes[i] = byte;
     }
-    made.is_some = true;
-    return made;
+    return true;
 }
 
 /* Sends and receives the test message: as a whole if the FIFO is on, else byte by byte. */
-static inline struct uart_maybe_bytes16 uart_echo_message(struct u16550_console *uart)
+static inline bool uart_echo_message(struct u16550_console *uart, struct uart_bytes16 *actual)
 {
     if (uart->fifo_enabled)
-        return uart_echo_whole(uart);
-    return uart_echo_each(uart);
+        return uart_echo_whole(uart, actual);
+    return uart_echo_each(uart, actual);
 }
 
 /*
  * Sends the test message, and compares what returns.
  *
- * Proved: the test message: sent and received; or a wait that reaches the limit; or other
- * bytes received.
+ * Proved: the test message: sent and received; or a wait that reaches the limit; or other bytes
+ * received.
  */
-static inline enum uart_loopback_error uart_exchange_message(struct u16550_console *uart)
+static inline int uart_exchange_message(struct u16550_console *uart)
 {
-    struct uart_maybe_bytes16 found = uart_echo_message(uart);
-    if (!found.is_some)
-        return UART_LOOPBACK_ERROR_STALLED;
-    if (!uart_same_bytes(found.value.bytes, uart_echo_whole_bytes, 16))
-        return UART_LOOPBACK_ERROR_UNEXPECTED_LOOPBACK_MSG;
-    return UART_LOOPBACK_ERROR_NONE;
+    struct uart_bytes16 actual;
+    if (!uart_echo_message(uart, &actual))
+        return U16550_CONSOLE_LOOPBACK_STALLED;
+    if (!uart_same_bytes(actual.bytes, uart_test_message, 16))
+        return U16550_CONSOLE_LOOPBACK_UNEXPECTED_MSG;
+    return U16550_CONSOLE_OK;
 }
 
 /*
  * Makes the test itself, while the device is in loopback.
  *
- * Proved: in loopback: bytes from before the test taken, the byte, the message, up to the
- * first error.
+ * Proved: in loopback: bytes from before the test taken, the byte, the message, up to the first
+ * error.
  */
-static inline enum uart_loopback_error uart_exchange(struct u16550_console *uart)
+static inline int uart_exchange(struct u16550_console *uart)
 {
     if (!uart_drain_received(uart))
-        return UART_LOOPBACK_ERROR_STALLED;
-    enum uart_loopback_error error = uart_exchange_byte(uart);
-    if (error != UART_LOOPBACK_ERROR_NONE)
+        return U16550_CONSOLE_LOOPBACK_STALLED;
+    int error = uart_exchange_byte(uart);
+    if (error != U16550_CONSOLE_OK)
         return error;
     return uart_exchange_message(uart);
 }
 
-/* Returns whether this line has changed. */
-static inline bool uart_msr_is_changed(uint8_t msr, uint8_t before, uint8_t line)
-{
-    return (before & line) != (msr & line);
-}
-
-/* Returns these bits if the condition holds, else none. */
-static inline uint8_t uart_flag(bool on, uint8_t bits)
-{
-    return on ? bits : 0;
-}
-
 /*
- * Returns the changes of the lines since an earlier reading, as their bits: of RI only its
- * trailing edge, from set to clear.
- */
-static uint8_t uart_msr_changes_since(uint8_t msr, uint8_t before)
-{
-    uint8_t ri = uart_flag(uart_msr_is_changed(msr, before, U16550_MSR_CTS), U16550_MSR_DELTA_CTS);
-    uint8_t cd = uart_flag(uart_msr_is_changed(msr, before, U16550_MSR_DSR), U16550_MSR_DELTA_DSR);
-    uint8_t flag =
-        uart_flag((before & U16550_MSR_RI) != 0 && (msr & U16550_MSR_RI) == 0,
-        U16550_MSR_TRAILING_EDGE_RI);
-    return ri | cd |
-        (flag | uart_flag(uart_msr_is_changed(msr, before, U16550_MSR_CD), U16550_MSR_DELTA_CD));
-}
-
-/*
- * Leaves loopback, restores MCR and IER, and saves the changes of the lines that are not due to
- * the test.
+ * Leaves loopback, restores MCR and IER, and reads MSR, so that no change of the lines which is
+ * due to the test stays.
  *
- * Proved: loopback is left, MCR and IER are restored, changes of the lines are saved, and
- * the saved errors are those noted before.
+ * Proved: loopback is left, MCR and IER are restored, MSR is read, and the saved errors are those
+ * noted before.
  */
 static inline void
-uart_leave_loopback(struct u16550_console *uart, uint8_t mcr, uint8_t ier, uint8_t before,
-    uint8_t noted)
+uart_leave_loopback(struct u16550_console *uart, uint8_t mcr, uint8_t ier, uint8_t noted)
 {
     uart_device_write(UART_MCR, mcr & (uint8_t)~U16550_MCR_OUT_2_INT_ENABLE);
-    uint8_t value = uart_device_read(UART_MSR);
+    uart_device_read(UART_MSR);
     uart_device_write(UART_MCR, mcr);
     uart_device_write(UART_IER, ier);
-    uart_msr_changes_since(value, before);
     uart->saved_lsr = noted;
 }
 
 /*
- * Tests whether bytes that are sent return while the device is in loopback: first one byte,
- * and then a message of 16.
+ * Tests whether bytes that are sent return while the device is in loopback: first one byte, and
+ * then a message of 16.
  *
- * Call it after init, to find out whether the chip works. Send nothing else while it runs.
- * In loopback the chip connects its transmitter to its receiver, and nothing goes out on the
- * line. For a device without loopback do not call it; wrap the driver with
- * Uart16550Tty_from_inner instead of constructing a terminal.
+ * Call it after u16550_console_init, to find out whether the chip works. Send nothing else while
+ * it runs. In loopback the chip connects its transmitter to its receiver, and nothing goes out on
+ * the line. For a device without loopback do not call it.
  *
- * Waits until the transmitter is empty, and then for each byte, at most spin_limit polls
- * each time. Received bytes and error bits that are found in loopback are discarded; error
- * bits that were saved before it stay saved. The FIFOs are reset and set up again, and
- * fifo_enabled is read again. Afterwards MCR and IER are as before, also on a chip that was
- * in loopback already.
+ * Waits until the transmitter is empty, and then for each byte, at most U16550_CONSOLE_POLLS polls
+ * each time. Received bytes and error bits that are found in loopback are discarded; error bits
+ * that were saved before it stay saved. The FIFOs are reset and set up again, and fifo_enabled is
+ * read again. Afterwards MCR and IER are as before, also on a chip that was in loopback already.
  *
- * The modem lines before and after the test are compared, and their changes saved for the next
- * msr; of RI only its trailing edge. A line that changed and changed back in between is not
- * reported.
- *
- * Whole bytes are compared. With 5 or 6 data bits a chip that cuts characters fails the test.
+ * Whole bytes are compared.
  *
  * Errors
  *
- * - Stalled after spin_limit unsuccessful polls in a row. If the first wait failed,
- *   nothing was written, and what the polls cleared is saved. Later a test byte may still be
- *   in the transmitter, and is then sent after the test.
- * - SendError if the device does not accept the test byte. Its cause is always NoCapacity.
- * - UnexpectedLoopbackByte, UnexpectedLoopbackMsg if other bytes return.
+ * - U16550_CONSOLE_LOOPBACK_STALLED after U16550_CONSOLE_POLLS unsuccessful polls in a row. If the
+ *   first wait failed, nothing was written, and what the polls cleared is saved. Later a test byte
+ *   may still be in the transmitter, and is then sent after the test.
+ * - U16550_CONSOLE_LOOPBACK_NO_CAPACITY if the device does not accept the test byte.
+ * - U16550_CONSOLE_LOOPBACK_UNEXPECTED_BYTE, U16550_CONSOLE_LOOPBACK_UNEXPECTED_MSG if other bytes
+ *   return.
  *
  * Except for the first wait, MCR and IER are restored before the error is returned.
  *
- * Proved: MCR and IER are read, and there is a wait for an empty transmitter. If it reaches
- * the limit, nothing is written, and the result is a stall; else loopback is entered, bytes
- * are exchanged up to the first error, and MCR and IER are restored.
+ * Proved: MCR and IER are read, and there is a wait for an empty transmitter. If it reaches the
+ * limit, nothing is written, and the result is a stall; else loopback is entered, bytes are
+ * exchanged up to the first error, and MCR and IER are restored.
  */
-static enum uart_loopback_error uart_test_loopback(struct u16550_console *uart)
+static int uart_test_loopback(struct u16550_console *uart)
 {
     uint8_t mcr = uart_device_read(UART_MCR);
     uint8_t ier = uart_device_read(UART_IER);
     if (!uart_wait_for(uart, U16550_LSR_TRANSMITTER_EMPTY))
-        return UART_LOOPBACK_ERROR_STALLED;
+        return U16550_CONSOLE_LOOPBACK_STALLED;
     uint8_t noted = uart->saved_lsr;
-    uint8_t before = uart_enter_loopback(uart);
-    enum uart_loopback_error outcome = uart_exchange(uart);
-    uart_leave_loopback(uart, mcr, ier, before, noted);
+    struct u16550_core_maybe_fifo_trigger_level fifo_trigger_level =
+        { true, U16550_CORE_FIFO_TRIGGER_LEVEL_FOURTEEN };
+    uart_enter_loopback(uart, fifo_trigger_level);
+    int outcome = uart_exchange(uart);
+    uart_leave_loopback(uart, mcr, ier, noted);
     return outcome;
 }
 
 /*
- * Reads the line status register (LSR). Returns it joined with the error bits that earlier
- * reads by this driver cleared in the chip, and that are saved. Afterwards no error bits of
- * LSR are saved.
- *
- * Call it to find out whether received bytes had errors or were lost. Does not wait.
- * has_error of the result also counts bit 7, an error somewhere in the FIFO, which is not
+ * Reads the line status register (LSR). Returns it joined with the error bits that earlier reads
+ * by this driver cleared in the chip, and that are saved. Afterwards no error bits of LSR are
  * saved.
  *
- * Proved: one read of LSR, which is returned joined with the saved bits, of which none are
- * left.
+ * Call it to find out whether received bytes had errors or were lost. Does not wait. The result
+ * has bit 7 too, an error somewhere in the FIFO, which is not saved.
+ *
+ * Proved: one read of LSR, which is returned joined with the saved bits, of which none are left.
  */
 static inline uint8_t uart_lsr(struct u16550_console *uart)
 {
     uint8_t lsr = uart_read_lsr(uart);
-    uint8_t lsr2 = uart->saved_lsr;
+    uint8_t saved_lsr = uart->saved_lsr;
     uart->saved_lsr = 0;
-    return lsr | lsr2;
+    return lsr | saved_lsr;
 }
 
 /*
  * Writes MCR: the outputs to the modem are as these bits say, and loopback is off.
  *
- * OUT_2_INT_ENABLE gates the interrupt line on a PC, and init sets it. So leave it in the
- * bits if interrupts are used.
+ * OUT_2_INT_ENABLE gates the interrupt line on a PC, and u16550_console_init sets it. So leave it
+ * in the bits if interrupts are used.
  *
  * Proved: these bits are written to MCR, without loopback.
  */
@@ -1230,39 +985,45 @@ static inline void uart_set_modem_control(uint8_t outputs)
  *
  * Proved: these bytes, one by one: all of them, or a beginning.
  */
-static struct uart_maybe_stalled_error
-uart_send_singly(struct u16550_console *uart, const uint8_t *bytes, size_t bytes_len)
+static int
+uart_send_singly(struct u16550_console *uart, const uint8_t *bytes, size_t bytes_len,
+    size_t *stalled_at)
 {
     for (size_t done = 0; done < bytes_len; done++) {
         uint8_t byte = bytes[done];
-        if (!uart_wait_to_send(uart))
-            return uart_failed_stalled_error(done);
+        if (!uart_wait_to_send(uart)) {
+            *stalled_at = done;
+            return U16550_CONSOLE_STALLED;
+        }
         uart_device_write(UART_DATA, byte);
     }
-    return uart_no_stalled_error();
+    return U16550_CONSOLE_OK;
 }
 
 /* Returns what is sent for a byte of a text. */
-static struct uart_expansion uart_expansion_of(uint8_t byte)
+static struct uart_expansion uart_tty_expand(uint8_t byte)
 {
     switch (byte) {
-    case 8:
-    case 127: {
-        struct uart_bytes3 n;
-        uart_copy_bytes(n.bytes, uart_expansion_of_bytes, 3);
-        return uart_make_expansion(n, 3);
-    }
-    case 10: {
+    case '\b':
+    case 0x7f: {
         struct uart_bytes3 bytes;
-        uart_copy_bytes(bytes.bytes, uart_expansion_of_bytes2, 3);
-        return uart_make_expansion(bytes, 2);
+        uart_copy_bytes(bytes.bytes, uart_erase_text, 3);
+        struct uart_expansion expansion = { bytes, 3 };
+        return expansion;
+    }
+    case '\n': {
+        struct uart_bytes3 bytes;
+        uart_copy_bytes(bytes.bytes, uart_newline_text, 3);
+        struct uart_expansion expansion = { bytes, 2 };
+        return expansion;
     }
     default: {
-        struct uart_bytes3 bytes2;
-        bytes2.bytes[0] = byte;
-        bytes2.bytes[1] = 0;
-        bytes2.bytes[2] = 0;
-        return uart_make_expansion(bytes2, 1);
+        struct uart_bytes3 bytes;
+        bytes.bytes[0] = byte;
+        bytes.bytes[1] = 0;
+        bytes.bytes[2] = 0;
+        struct uart_expansion expansion = { bytes, 1 };
+        return expansion;
     }
     }
 }
@@ -1271,128 +1032,102 @@ static struct uart_expansion uart_expansion_of(uint8_t byte)
  * Sends the expansion of a byte, and returns its length. Printable bytes have a branch of their
  * own, since most bytes of a text are printable, and that branch is short.
  *
- * Proved: the driver under the terminal made a list of the language.
  * Proved: these bytes, one by one: all of them, or a beginning.
  */
-static struct uart_u64_or_stalled_error uart_tty_send_expansion(struct u16550_console *uart, uint8_t byte)
+static int
+uart_tty_send_expansion(struct u16550_console *uart, uint8_t byte, size_t *count, size_t *stalled_at)
 {
-    if (byte >= 32 && byte < 127) {
-        struct uart_bytes1 bytes;
-        bytes.bytes[0] = byte;
-        struct uart_maybe_stalled_error expansion = uart_send_singly(uart, bytes.bytes, 1);
-        if (expansion.is_error)
-            return uart_bad_u64_or_stalled_error(expansion.error);
-        return uart_good_u64_or_stalled_error(1);
+    if (byte >= ' ' && byte < 0x7f) {
+        if (uart_send_singly(uart, &byte, 1, stalled_at) != U16550_CONSOLE_OK)
+            return U16550_CONSOLE_STALLED;
+        *count = 1;
+        return U16550_CONSOLE_OK;
     }
-    struct uart_expansion b = uart_expansion_of(byte);
-    struct uart_maybe_stalled_error found = uart_send_singly(uart, b.first.bytes, b.second);
-    if (found.is_error)
-        return uart_bad_u64_or_stalled_error(found.error);
-    return uart_good_u64_or_stalled_error(b.second);
+    struct uart_expansion expansion = uart_tty_expand(byte);
+    if (uart_send_singly(uart, expansion.text.bytes, expansion.len,
+        stalled_at) != U16550_CONSOLE_OK) {
+        return U16550_CONSOLE_STALLED;
+    }
+    *count = expansion.len;
+    return U16550_CONSOLE_OK;
 }
 
 /*
- * Sends the expansion of text that need not be UTF-8, as write_text does.
+ * Sends the expansion of text that need not be UTF-8, as u16550_console_write_text does.
  *
  * This is for a console that passes on what others write, as the messages of a log in an older
  * code.
  *
  * Errors
  *
- * Those of write_text.
+ * Those of u16550_console_write_text.
  *
- * Proved: the driver under the terminal made a list of the language.
- * Proved: the expansion of the text, byte by byte, each after its own wait; or a beginning
- * of it, as long as the error reports, at most 2 ^ 64 - 1, and then a wait that reaches the
- * limit.
+ * Proved: the expansion of the text, byte by byte, each after its own wait; or a beginning of it,
+ * as long as the error reports, at most SIZE_MAX, and then a wait that reaches the limit.
  */
-static struct uart_maybe_stalled_error
-uart_tty_write_raw_text(struct u16550_console *uart, const uint8_t *text, size_t text_len)
+static int
+uart_tty_write_raw_text(struct u16550_console *uart, const uint8_t *text, size_t text_len,
+    size_t *stalled_at)
 {
     size_t done = 0;
     for (size_t byte = 0; byte < text_len; byte++) {
-        struct uart_u64_or_stalled_error outcome = uart_tty_send_expansion(uart, text[byte]);
-        if (outcome.is_error) {
-            size_t number = done;
-            return uart_failed_stalled_error(number <= SIZE_MAX - outcome.error
-                ? number + outcome.error : SIZE_MAX);
+        size_t count;
+        size_t found_stalled_at;
+        if (uart_tty_send_expansion(uart, text[byte], &count,
+            &found_stalled_at) != U16550_CONSOLE_OK) {
+            *stalled_at = done <= SIZE_MAX - found_stalled_at ? done + found_stalled_at : SIZE_MAX;
+            return U16550_CONSOLE_STALLED;
         }
-        size_t number2 = done;
-        done = number2 <= SIZE_MAX - (size_t)outcome.value ? number2 + (size_t)outcome.value
-            : SIZE_MAX;
+        done = done <= SIZE_MAX - count ? done + count : SIZE_MAX;
     }
-    return uart_no_stalled_error();
+    return U16550_CONSOLE_OK;
 }
 
 /* ---- the functions of the header, by hand: errors as numbers */
 
 int u16550_console_init(struct u16550_console *uart)
 {
-    switch (uart_set_up(uart, U16550_CONSOLE_DIVISOR)) {
-    case UART_INIT_ERROR_NONE:
-        return U16550_CONSOLE_OK;
-    case UART_INIT_ERROR_DEVICE_NOT_PRESENT:
-        return U16550_CONSOLE_DEVICE_NOT_PRESENT;
-    default:
-        return U16550_CONSOLE_INIT_STALLED;
-    }
+    return uart_set_up(uart, U16550_CONSOLE_DIVISOR);
 }
 
 int u16550_console_attach(struct u16550_console *uart)
 {
-    switch (uart_attach(uart).error) {
-    case UART_ATTACH_ERROR_NONE:
-        return U16550_CONSOLE_OK;
-    case UART_ATTACH_ERROR_DIVISOR_LATCH_OPEN:
-        return U16550_CONSOLE_DIVISOR_LATCH_OPEN;
-    case UART_ATTACH_ERROR_LOOPBACK:
-        return U16550_CONSOLE_LOOPBACK;
-    default:
-        return U16550_CONSOLE_NO_DIVISOR;
-    }
+    struct uart_latch latch;
+    return uart_attach(uart, &latch);
 }
 
 int u16550_console_test_loopback(struct u16550_console *uart)
 {
-    switch (uart_test_loopback(uart)) {
-    case UART_LOOPBACK_ERROR_NONE:
-        return U16550_CONSOLE_OK;
-    case UART_LOOPBACK_ERROR_SEND_ERROR:
-        return U16550_CONSOLE_LOOPBACK_NO_CAPACITY;
-    case UART_LOOPBACK_ERROR_UNEXPECTED_LOOPBACK_BYTE:
-        return U16550_CONSOLE_LOOPBACK_UNEXPECTED_BYTE;
-    case UART_LOOPBACK_ERROR_UNEXPECTED_LOOPBACK_MSG:
-        return U16550_CONSOLE_LOOPBACK_UNEXPECTED_MSG;
-    default:
-        return U16550_CONSOLE_LOOPBACK_STALLED;
-    }
+    return uart_test_loopback(uart);
 }
 
 int u16550_console_put(struct u16550_console *uart, uint8_t byte)
 {
-    return uart_send_singly(uart, &byte, 1).is_error ? U16550_CONSOLE_STALLED : U16550_CONSOLE_OK;
+    size_t done;
+    return uart_send_singly(uart, &byte, 1, &done);
 }
 
 int u16550_console_try_put(struct u16550_console *uart, uint8_t byte)
 {
-    return uart_try_send_byte(uart, byte) == UART_BYTE_SEND_ERROR_NONE ? U16550_CONSOLE_OK : U16550_CONSOLE_NO_CAPACITY;
+    return uart_try_send_byte(uart, byte);
 }
 
 int u16550_console_get(struct u16550_console *uart)
 {
-    struct uart_maybe_u8 found = uart_try_receive_byte(uart);
-    return found.is_some ? found.value : -1;
+    uint8_t byte;
+    return uart_try_receive_byte(uart, &byte) ? byte : -1;
 }
 
 size_t u16550_console_send(struct u16550_console *uart, const uint8_t *bytes, size_t len)
 {
-    struct uart_maybe_stalled_error stalled = uart_send_bytes_exact(uart, bytes, len);
-    return stalled.is_error ? stalled.error : len;
+    size_t done;
+    return uart_send_bytes_exact(uart, bytes, len, &done) == U16550_CONSOLE_OK ? len : done;
 }
 
 int u16550_console_write_text(struct u16550_console *uart, const char *text, size_t len)
 {
-    return uart_tty_write_raw_text(uart, (const uint8_t *)text, len).is_error ? U16550_CONSOLE_STALLED : U16550_CONSOLE_OK;
+    size_t done;
+    return uart_tty_write_raw_text(uart, (const uint8_t *)text, len, &done);
 }
 
 /* As u16550_emergency, which is by hand too. */
@@ -1412,7 +1147,8 @@ int u16550_console_emergency(struct u16550_console *uart)
     uart_set_modem_control(kept | U16550_MCR_DTR | U16550_MCR_RTS);
     if ((uart_device_read(UART_MCR) & U16550_MCR_LOOP_BACK) != 0)
         return U16550_CONSOLE_LOOPBACK;
-    uart->fifo_enabled = true;
+    /* Nobody knows whether the FIFOs are on. If they are off, the second byte of a burst would be lost. */
+    uart->fifo_enabled = false;
     uart->saved_lsr = 0;
     return U16550_CONSOLE_OK;
 }

@@ -63,8 +63,8 @@ struct uart_chip_character {
 };
 
 /*
- * How many characters each FIFO of a chip holds, for Uart16550_set_fifo_size, by which all
- * calls that send and the rings go, and for one Uart16550_send_burst.
+ * How many characters each FIFO of a chip holds, for Uart16550_set_fifo_size, by which all calls
+ * that send and the rings go, and for one Uart16550_send_burst.
  *
  * A 16550 has 16. No register that all chips have shows the size, so it is taken from the
  * datasheet, or Uart16550_find_fifo_size finds it. A 16750 has 64 after
@@ -249,138 +249,6 @@ uart_move_down_characters(struct uart_character *items, size_t from, size_t to, 
     }
 }
 
-static inline struct uart_origin uart_origin_live(void)
-{
-    struct uart_origin made = { UART_ORIGIN_LIVE, 0 };
-    return made;
-}
-
-static inline struct uart_chip_character
-uart_make_chip_character(uint8_t byte, uint8_t errors, struct uart_origin origin)
-{
-    struct uart_chip_character made = { byte, errors, origin };
-    return made;
-}
-
-static inline struct uart_character
-uart_make_character(uint8_t byte, uint8_t errors, uint8_t is_looped)
-{
-    struct uart_character made = { byte, errors, is_looped };
-    return made;
-}
-
-static inline struct uart_maybe_character uart_no_character(void)
-{
-    struct uart_maybe_character made = { false, { 0, 0, 0 } };
-    return made;
-}
-
-static inline struct uart_maybe_character uart_some_character(struct uart_character value)
-{
-    struct uart_maybe_character made = { true, value };
-    return made;
-}
-
-static inline struct uart_maybe_chip_character uart_no_chip_character(void)
-{
-    struct uart_maybe_chip_character made = { false, { 0, 0, { UART_ORIGIN_ARRIVED, 0 } } };
-    return made;
-}
-
-static inline struct uart_origin uart_origin_looped(void)
-{
-    struct uart_origin made = { UART_ORIGIN_LOOPED, 0 };
-    return made;
-}
-
-static inline struct uart_maybe_chip_character
-uart_some_chip_character(struct uart_chip_character value)
-{
-    struct uart_maybe_chip_character made = { true, value };
-    return made;
-}
-
-static inline struct uart_maybe_shifting uart_no_shifting(void)
-{
-    struct uart_maybe_shifting made = { false, { 0, 0 } };
-    return made;
-}
-
-static inline struct uart_shifting uart_make_shifting(uint8_t byte, uint16_t ticks_left)
-{
-    struct uart_shifting made = { byte, ticks_left };
-    return made;
-}
-
-static inline struct uart_maybe_shifting uart_some_shifting(struct uart_shifting value)
-{
-    struct uart_maybe_shifting made = { true, value };
-    return made;
-}
-
-static inline struct uart_maybe_interrupt_type
-uart_some_interrupt_type(enum uart_interrupt_type value)
-{
-    struct uart_maybe_interrupt_type made = { true, value };
-    return made;
-}
-
-static inline struct uart_timeout uart_make_timeout(uint16_t ticks, uint16_t limit)
-{
-    struct uart_timeout made = { ticks, limit };
-    return made;
-}
-
-static inline struct uart_modem_data
-uart_make_modem_data(uint8_t inputs, uint8_t lines, uint8_t deltas)
-{
-    struct uart_modem_data made = { inputs, lines, deltas };
-    return made;
-}
-
-static inline struct uart_chip_modem
-uart_make_chip_modem(uint8_t inputs, uint8_t lines, uint8_t deltas)
-{
-    struct uart_chip_modem made = { inputs, lines, deltas };
-    return made;
-}
-
-static inline struct uart_maybe_interrupt_type uart_no_interrupt_type(void)
-{
-    struct uart_maybe_interrupt_type made = { false, UART_INTERRUPT_TYPE_RECEIVER_LINE_STATUS };
-    return made;
-}
-
-static inline struct uart_modem uart_make_modem(uint8_t inputs, uint8_t lines, uint8_t deltas)
-{
-    struct uart_modem made = { inputs, lines, deltas };
-    return made;
-}
-
-static inline struct uart_maybe_u16 uart_some_u16(uint16_t value)
-{
-    struct uart_maybe_u16 made = { true, value };
-    return made;
-}
-
-static inline struct uart_maybe_u16 uart_no_u16(void)
-{
-    struct uart_maybe_u16 made = { false, 0 };
-    return made;
-}
-
-static inline struct uart_maybe_u8 uart_no_u8(void)
-{
-    struct uart_maybe_u8 made = { false, 0 };
-    return made;
-}
-
-static inline struct uart_maybe_u8 uart_some_u8(uint8_t value)
-{
-    struct uart_maybe_u8 made = { true, value };
-    return made;
-}
-
 /* Returns the modem control register. */
 static inline uint8_t uart_chip_mcr(const struct uart_chip *uart_chip)
 {
@@ -406,11 +274,9 @@ static inline uint8_t uart_chip_lcr(const struct uart_chip *uart_chip)
 }
 
 /*
- * Returns the word length with this code, which is in the low two bits. Higher bits are
- * ignored.
+ * Returns the word length with this code, which is in the low two bits. Higher bits are ignored.
  *
- * Proved: this value and no other has the property.
- * Proved: the two bits from the lowest on are the code of this word length.
+ * Proved: the field is the code of this word length.
  */
 static inline enum uart_word_length uart_word_length_from_raw_bits(uint8_t bits)
 {
@@ -429,8 +295,7 @@ static inline enum uart_word_length uart_word_length_from_raw_bits(uint8_t bits)
 /*
  * Returns the number of data bits of a character.
  *
- * Proved: this value and no other has the property.
- * Proved: the two bits from the lowest on are the code of this word length.
+ * Proved: the field is the code of this word length.
  */
 static inline enum uart_word_length uart_lcr_word_length(uint8_t lcr)
 {
@@ -440,9 +305,9 @@ static inline enum uart_word_length uart_lcr_word_length(uint8_t lcr)
 /*
  * Returns a byte as it is sent and received under a line control register: only its data bits if
  * characters are cut. That is an option of the chip: the tests of the original driver have a model
- * that moves whole bytes, and a machine from new does so too. A byte is cut when it is written
- * and when it arrives. What comes back in loopback was cut already, and the divisor latch is no
- * byte of the line.
+ * that moves whole bytes, and a machine from new does so too. A byte is cut when it is written and
+ * when it arrives. What comes back in loopback was cut already, and the divisor latch is no byte
+ * of the line.
  */
 static inline uint8_t uart_cut_to(bool cuts, uint8_t lcr, uint8_t byte)
 {
@@ -563,8 +428,10 @@ static inline size_t uart_room_of(bool fifo, enum uart_fifo_size size)
  */
 static inline struct uart_character uart_character_of(struct uart_chip_character character)
 {
-    return uart_make_character(character.byte, character.errors,
-        (uint8_t)(character.origin.kind == UART_ORIGIN_LOOPED));
+    struct uart_character character2 =
+        { character.byte, character.errors,
+        (uint8_t)(character.origin.kind == UART_ORIGIN_LOOPED) };
+    return character2;
 }
 
 /* Puts an item last. */
@@ -579,8 +446,8 @@ uart_push_character(uint8_t *len, struct uart_character *items, size_t items_len
 }
 
 /*
- * Appends a character to the queue. The errors of one that is at the front have not been
- * reported. The caller must show that there is room, and that the character has a place.
+ * Appends a character to the queue. The errors of one that is at the front have not been reported.
+ * The caller must show that there is room, and that the character has a place.
  */
 static inline void
 uart_receiver_put(struct uart_receiver *uart_receiver, struct uart_chip_character new_)
@@ -604,8 +471,8 @@ uart_drop_others_character(struct uart_character *items, size_t items_len, size_
 }
 
 /*
- * The items behind the front move down by one place, as many as wait.
- * In blocks of a constant size: a move of any number of items would call memmove.
+ * The items behind the front move down by one place, as many as wait. In blocks of a constant
+ * size: a move of any number of items would call memmove.
  */
 static inline void
 uart_drop_front_character(struct uart_character *items, size_t items_len, size_t count)
@@ -620,31 +487,39 @@ static inline struct uart_maybe_character
 uart_pop_front_character(uint8_t *len, struct uart_character *items, size_t items_len,
     uint8_t fifo_size)
 {
-    if (*len == 0)
-        return uart_no_character();
-    struct uart_character character = items[0];
+    if (*len == 0) {
+        struct uart_maybe_character character = { false, { 0, 0, 0 } };
+        return character;
+    }
+    struct uart_character character2 = items[0];
     if (*len == 1) {
         *len = 0;
-        return uart_some_character(character);
+        struct uart_maybe_character character = { true, character2 };
+        return character;
     }
     size_t count = uart_count(*len, fifo_size);
     uart_drop_front_character(items, items_len, count);
     *len = (uint8_t)((uint8_t)count - 1);
-    return uart_some_character(character);
+    struct uart_maybe_character character3 = { true, character2 };
+    return character3;
 }
 
 /* Returns the character as a receiver has it. */
 static inline struct uart_chip_character
 uart_character_shown(const struct uart_character *uart_character)
 {
-    uint8_t number = uart_character->byte;
-    uint8_t number2 = uart_character->errors;
+    uint8_t byte = uart_character->byte;
+    uint8_t errors = uart_character->errors;
     struct uart_origin origin;
-    if (uart_character->is_looped != 0)
-        origin = uart_origin_looped();
-    else
-        origin = uart_origin_live();
-    return uart_make_chip_character(number, number2, origin);
+    if (uart_character->is_looped != 0) {
+        origin.kind = UART_ORIGIN_LOOPED;
+        origin.arrived = 0;
+    } else {
+        origin.kind = UART_ORIGIN_LIVE;
+        origin.arrived = 0;
+    }
+    struct uart_chip_character chip_character = { byte, errors, origin };
+    return chip_character;
 }
 
 /*
@@ -657,11 +532,15 @@ uart_receiver_pop(struct uart_receiver *uart_receiver)
     struct uart_maybe_character found =
         uart_pop_front_character(&uart_receiver->queue.len, uart_receiver->queue.items, 128,
         uart_receiver->fifo_size);
-    if (!found.is_some)
-        return uart_no_chip_character();
+    if (!found.is_some) {
+        struct uart_maybe_chip_character chip_character =
+            { false, { 0, 0, { UART_ORIGIN_ARRIVED, 0 } } };
+        return chip_character;
+    }
     struct uart_character front = found.value;
     uart_receiver->is_front_reported = 0;
-    return uart_some_chip_character(uart_character_shown(&front));
+    struct uart_maybe_chip_character chip_character2 = { true, uart_character_shown(&front) };
+    return chip_character2;
 }
 
 /* Replaces the character in the receiver, which is dropped. */
@@ -701,8 +580,10 @@ static inline void
 uart_receiving_arrive_live(struct uart_receiver *parts, bool loopback, bool fifo, uint8_t byte,
     uint8_t errors)
 {
-    if (!loopback)
-        uart_enter(parts, fifo, uart_make_chip_character(byte, errors, uart_origin_live()));
+    if (!loopback) {
+        struct uart_chip_character chip_character = { byte, errors, { UART_ORIGIN_LIVE, 0 } };
+        uart_enter(parts, fifo, chip_character);
+    }
 }
 
 /*
@@ -723,10 +604,8 @@ uint32_t uart_chip_arrive(struct uart_chip *chip, uint8_t byte, uint8_t errors)
 {
     if (chip == NULL)
         return UART_NULL_POINTER;
-    if ((errors & (UART_LSR_PARITY_ERROR | UART_LSR_FRAMING_ERROR |
-        UART_LSR_BREAK_INTERRUPT)) != errors) {
+    if ((errors & UART_LSR_CHARACTER_ERRORS) != errors)
         return UART_BAD_ERRORS;
-    }
     uart_controlling_arrive_live(chip, byte, errors);
     return UART_OK;
 }
@@ -769,10 +648,13 @@ uint16_t uart_chip_divisor(const struct uart_chip *chip)
 static inline struct uart_maybe_shifting
 uart_transmitter_shifting(const struct uart_transmitter *uart_transmitter)
 {
-    if (uart_transmitter->is_shifting == 0)
-        return uart_no_shifting();
-    return uart_some_shifting(uart_make_shifting(uart_transmitter->shift_byte,
-        uart_transmitter->ticks_left));
+    if (uart_transmitter->is_shifting == 0) {
+        struct uart_maybe_shifting shifting = { false, { 0, 0 } };
+        return shifting;
+    }
+    struct uart_maybe_shifting shifting2 =
+        { true, { uart_transmitter->shift_byte, uart_transmitter->ticks_left } };
+    return shifting2;
 }
 
 /* Returns the number of bytes in the queue. */
@@ -808,8 +690,7 @@ static inline uint8_t uart_receiver_front_errors(const struct uart_receiver *uar
 {
     if ((uart_receiver->queue.len == 0) || (uart_receiver->is_front_reported != 0))
         return 0;
-    return uart_receiver->queue.items[0].errors & (UART_LSR_PARITY_ERROR |
-        UART_LSR_FRAMING_ERROR | UART_LSR_BREAK_INTERRUPT);
+    return uart_receiver->queue.items[0].errors & UART_LSR_CHARACTER_ERRORS;
 }
 
 /* Returns what LSR shows of the receiver, but for the errors behind the front. */
@@ -833,9 +714,7 @@ static inline uint8_t uart_transmitter_status(const struct uart_transmitter *uar
 /* Returns whether the character has a parity error or a framing error, or is a break. */
 static inline bool uart_character_has_errors(const struct uart_chip_character *character)
 {
-    return (
-        character->errors & (UART_LSR_PARITY_ERROR | UART_LSR_FRAMING_ERROR |
-        UART_LSR_BREAK_INTERRUPT)) != 0;
+    return (character->errors & UART_LSR_CHARACTER_ERRORS) != 0;
 }
 
 static inline bool uart_some_has_errors_any(const struct uart_character *part2)
@@ -926,9 +805,9 @@ uart_receiver_trigger(const struct uart_receiver *uart_receiver)
 }
 
 /*
- * Returns the number of characters of a trigger level, for a FIFO of 16.
- * Apart from by_level: of constants a compiler makes a table, and of numbers that are passed one
- * test for each level, which in C takes five instructions more for each look at the interrupts.
+ * Returns the number of characters of a trigger level, for a FIFO of 16. Apart from by_level: of
+ * constants a compiler makes a table, and of numbers that are passed one test for each level,
+ * which in C takes five instructions more for each look at the interrupts.
  */
 static inline uint8_t uart_characters_of_16(enum uart_fifo_trigger_level level)
 {
@@ -964,8 +843,8 @@ uart_by_level(uint8_t first, uint8_t second, uint8_t third, uint8_t fourth,
 }
 
 /*
- * Returns the number of characters of a trigger level, for a FIFO of this size.
- * The levels have the names of their numbers for a 16550.
+ * Returns the number of characters of a trigger level, for a FIFO of this size. The levels have
+ * the names of their numbers for a 16550.
  */
 static inline uint8_t
 uart_characters_of(enum uart_fifo_size size, enum uart_fifo_trigger_level level)
@@ -1003,7 +882,7 @@ static inline bool uart_is_timed_out(const struct uart_receiver *parts, bool fif
 {
     bool is_so = fifo && 0 < uart_receiver_queue_len(parts);
     if (is_so) {
-        struct uart_timeout timeout = uart_make_timeout(parts->timeout_ticks, parts->timeout_limit);
+        struct uart_timeout timeout = { parts->timeout_ticks, parts->timeout_limit };
         is_so = timeout.ticks == timeout.limit;
     }
     return is_so;
@@ -1018,13 +897,15 @@ static inline bool uart_transmitter_is_thr_pending(const struct uart_transmitter
 /* The lines as a live chip saves them. */
 static inline struct uart_modem_data uart_modem_data_of(struct uart_modem uart_modem)
 {
-    return uart_make_modem_data(uart_modem.inputs, uart_modem.lines, uart_modem.deltas);
+    struct uart_modem_data modem_data = { uart_modem.inputs, uart_modem.lines, uart_modem.deltas };
+    return modem_data;
 }
 
 /* Returns the modem lines with these data. */
 static inline struct uart_chip_modem uart_modem_from_data(struct uart_modem_data saved)
 {
-    return uart_make_chip_modem(saved.inputs, saved.lines, saved.deltas);
+    struct uart_chip_modem chip_modem = { saved.inputs, saved.lines, saved.deltas };
+    return chip_modem;
 }
 
 /* The lines as the chip keeps them. */
@@ -1058,9 +939,9 @@ static struct uart_maybe_interrupt_type uart_pending_interrupt(const struct uart
     struct uart_maybe_interrupt_type found;
     bool is_so;
     if ((enabled & UART_IER_RECEIVER_LINE_STATUS) != 0) {
-        if ((uart_lsr(parts) & (UART_LSR_OVERRUN_ERROR | UART_LSR_PARITY_ERROR |
-            UART_LSR_FRAMING_ERROR | UART_LSR_BREAK_INTERRUPT)) != 0) {
-            found = uart_some_interrupt_type(UART_INTERRUPT_TYPE_RECEIVER_LINE_STATUS);
+        if ((uart_lsr(parts) & UART_LSR_LINE_ERRORS) != 0) {
+            found.is_some = true;
+            found.value = UART_INTERRUPT_TYPE_RECEIVER_LINE_STATUS;
             is_so = false;
         } else {
             is_so = true;
@@ -1073,7 +954,8 @@ static struct uart_maybe_interrupt_type uart_pending_interrupt(const struct uart
         bool is_so2;
         if ((enabled & UART_IER_DATA_READY) != 0) {
             if (uart_is_data_pending(&parts->receiver, uart_chip_fifo(parts))) {
-                found2 = uart_some_interrupt_type(UART_INTERRUPT_TYPE_RECEIVED_DATA_READY);
+                found2.is_some = true;
+                found2.value = UART_INTERRUPT_TYPE_RECEIVED_DATA_READY;
                 is_so2 = false;
             } else {
                 is_so2 = true;
@@ -1086,7 +968,8 @@ static struct uart_maybe_interrupt_type uart_pending_interrupt(const struct uart
             bool is_so3;
             if ((enabled & UART_IER_DATA_READY) != 0) {
                 if (uart_is_timed_out(&parts->receiver, uart_chip_fifo(parts))) {
-                    found3 = uart_some_interrupt_type(UART_INTERRUPT_TYPE_RECEPTION_TIMEOUT);
+                    found3.is_some = true;
+                    found3.value = UART_INTERRUPT_TYPE_RECEPTION_TIMEOUT;
                     is_so3 = false;
                 } else {
                     is_so3 = true;
@@ -1099,9 +982,8 @@ static struct uart_maybe_interrupt_type uart_pending_interrupt(const struct uart
                 bool is_so4;
                 if ((enabled & UART_IER_THR_EMPTY) != 0) {
                     if (uart_transmitter_is_thr_pending(&parts->transmitter)) {
-                        found4 =
-                            uart_some_interrupt_type(
-                            UART_INTERRUPT_TYPE_TRANSMITTER_HOLDING_REGISTER_EMPTY);
+                        found4.is_some = true;
+                        found4.value = UART_INTERRUPT_TYPE_TRANSMITTER_HOLDING_REGISTER_EMPTY;
                         is_so4 = false;
                     } else {
                         is_so4 = true;
@@ -1114,7 +996,8 @@ static struct uart_maybe_interrupt_type uart_pending_interrupt(const struct uart
                     bool is_so5;
                     if ((enabled & UART_IER_MODEM_STATUS) != 0) {
                         if (uart_chip_has_modem_changes(parts)) {
-                            found5 = uart_some_interrupt_type(UART_INTERRUPT_TYPE_MODEM_STATUS);
+                            found5.is_some = true;
+                            found5.value = UART_INTERRUPT_TYPE_MODEM_STATUS;
                             is_so5 = false;
                         } else {
                             is_so5 = true;
@@ -1123,7 +1006,7 @@ static struct uart_maybe_interrupt_type uart_pending_interrupt(const struct uart
                         is_so5 = true;
                     }
                     if (is_so5)
-                        found5 = uart_no_interrupt_type();
+                        found5.is_some = false;
                     found4 = found5;
                 }
                 found3 = found4;
@@ -1197,12 +1080,9 @@ static inline bool uart_is_implemented(enum uart_events_chip model, bool fifo)
 /* Returns whether inputs and lines have bits of lines alone, and changes bits of changes. */
 static inline bool uart_is_sound_modem(struct uart_modem_data saved)
 {
-    return (saved.inputs & (UART_MSR_CTS | UART_MSR_DSR | UART_MSR_RI | UART_MSR_CD)) ==
-        saved.inputs &&
-        (saved.lines & (UART_MSR_CTS | UART_MSR_DSR | UART_MSR_RI | UART_MSR_CD)) ==
-        saved.lines &&
-        (saved.deltas & (UART_MSR_DELTA_CTS | UART_MSR_DELTA_DSR | UART_MSR_TRAILING_EDGE_RI |
-        UART_MSR_DELTA_CD)) == saved.deltas;
+    return (saved.inputs & UART_MSR_LINES) == saved.inputs &&
+        (saved.lines & UART_MSR_LINES) == saved.lines &&
+        (saved.deltas & UART_MSR_CHANGES) == saved.deltas;
 }
 
 /*
@@ -1213,8 +1093,7 @@ static inline bool uart_is_live_character(const struct uart_chip_character *char
 {
     uint8_t errors = character->errors;
     return character->origin.kind != UART_ORIGIN_ARRIVED &&
-        (errors & (UART_LSR_PARITY_ERROR | UART_LSR_FRAMING_ERROR | UART_LSR_BREAK_INTERRUPT)) ==
-        errors;
+        (errors & UART_LSR_CHARACTER_ERRORS) == errors;
 }
 
 static inline bool uart_are_live_all(const struct uart_character *part2)
@@ -1301,8 +1180,8 @@ uart_is_sound_transmitter(const struct uart_transmitter *transmitter, enum uart_
 {
     bool is_so = uart_is_char_time(transmitter->char_ticks);
     if (is_so) {
-        uint16_t number = transmitter->char_ticks;
-        is_so = uart_is_ticking(number, uart_transmitter_shifting(transmitter));
+        uint16_t char_ticks = transmitter->char_ticks;
+        is_so = uart_is_ticking(char_ticks, uart_transmitter_shifting(transmitter));
     }
     bool is_so2 = is_so;
     if (is_so2) {
@@ -1434,8 +1313,9 @@ static inline uint8_t uart_number_of(enum uart_fifo_trigger_level trigger)
  */
 static inline struct uart_character uart_character_restored(struct uart_character uart_character)
 {
-    return uart_make_character(uart_character.byte, uart_character.errors,
-        (uint8_t)(uart_character.is_looped != 0));
+    struct uart_character character =
+        { uart_character.byte, uart_character.errors, (uint8_t)(uart_character.is_looped != 0) };
+    return character;
 }
 
 /*
@@ -1478,8 +1358,8 @@ uart_receiver_restore(struct uart_receiver *uart_receiver, const struct uart_rec
 /*
  * Becomes a chip like this one.
  *
- * Proved: the whole chip, but for bytes behind the end of a queue and those of an empty
- * shift register.
+ * Proved: the whole chip, but for bytes behind the end of a queue and those of an empty shift
+ * register.
  */
 static inline void uart_chip_restore(struct uart_chip *uart_chip, const struct uart_chip *saved)
 {
@@ -1518,8 +1398,8 @@ static inline bool uart_is_fifo_size(uint8_t characters)
 }
 
 /*
- * Becomes a transmitter that has sent nothing yet, with a FIFO of this size.
- * What is in the queue's places means nothing. To clear so many would call memset.
+ * Becomes a transmitter that has sent nothing yet, with a FIFO of this size. What is in the
+ * queue's places means nothing. To clear so many would call memset.
  *
  * Proved: a length is within the FIFO.
  */
@@ -1535,16 +1415,16 @@ uart_transmitter_power_on(struct uart_transmitter *uart_transmitter, uint8_t fif
     uart_transmitter->is_thr_pending = 0;
     uart_transmitter->fifo_size = uart_places_of(fifo_size);
     uart_transmitter->queue.len = 0;
-    struct uart_wire uart_wire;
-    uart_wire.len = 0;
-    uart_wire.capacity = capacity;
-    uart_fill_bytes(uart_wire.items, 0, 64);
-    uart_transmitter->wire = uart_wire;
+    struct uart_wire wire;
+    wire.len = 0;
+    wire.capacity = capacity;
+    uart_fill_bytes(wire.items, 0, 64);
+    uart_transmitter->wire = wire;
 }
 
 /*
- * Becomes a receiver to which nothing has come yet, with a FIFO of this size.
- * What is in the queue's places means nothing. To clear so many would call memset.
+ * Becomes a receiver to which nothing has come yet, with a FIFO of this size. What is in the
+ * queue's places means nothing. To clear so many would call memset.
  *
  * Proved: the trigger is the number of characters of its level.
  */
@@ -1564,8 +1444,8 @@ uart_receiver_power_on(struct uart_receiver *uart_receiver, uint8_t fifo_size, u
 /*
  * Becomes a chip after power on, with FIFOs of this size.
  *
- * Proved: the whole chip, but for bytes behind the end of a queue and those of an empty
- * shift register.
+ * Proved: the whole chip, but for bytes behind the end of a queue and those of an empty shift
+ * register.
  */
 static inline void
 uart_chip_power_on(struct uart_chip *uart_chip, uint8_t model, uint8_t fifo_size,
@@ -1573,15 +1453,17 @@ uart_chip_power_on(struct uart_chip *uart_chip, uint8_t model, uint8_t fifo_size
 {
     uart_transmitter_power_on(&uart_chip->transmitter, fifo_size, char_ticks, capacity);
     uart_receiver_power_on(&uart_chip->receiver, fifo_size, char_ticks);
-    struct uart_latches uart_latches;
-    uart_latches.ier = 0;
-    uart_latches.lcr = 0;
-    uart_latches.mcr = 0;
-    uart_latches.scr = 0;
-    uart_latches.dll = 0;
-    uart_latches.dlm = 0;
-    uart_chip->latches = uart_latches;
-    uart_chip->modem = uart_make_modem(0, 0, 0);
+    struct uart_latches latches;
+    latches.ier = 0;
+    latches.lcr = 0;
+    latches.mcr = 0;
+    latches.scr = 0;
+    latches.dll = 0;
+    latches.dlm = 0;
+    uart_chip->latches = latches;
+    uart_chip->modem.inputs = 0;
+    uart_chip->modem.lines = 0;
+    uart_chip->modem.deltas = 0;
     uart_chip->model = (uint8_t)(model != 0);
     uart_chip->fifo = 0;
     uart_chip->cuts = (uint8_t)(cuts != 0);
@@ -1655,8 +1537,8 @@ static inline bool uart_is_dlab_set(const struct uart_chip *parts)
 }
 
 /*
- * Takes the front if there is one, and returns the byte that was taken last.
- * A read of an empty receiver changes nothing, and not the ticks towards a timeout either.
+ * Takes the front if there is one, and returns the byte that was taken last. A read of an empty
+ * receiver changes nothing, and not the ticks towards a timeout either.
  */
 static inline uint8_t uart_take_front(struct uart_receiver *parts)
 {
@@ -1684,7 +1566,7 @@ static inline uint8_t uart_flag_isr(bool on, uint8_t bits)
 /* Returns what ISR shows of the FIFOs. Bit 5 of a chip without the size switch is 0. */
 static inline uint8_t uart_fifo_flags(const struct uart_chip *parts)
 {
-    return uart_flag_isr(uart_chip_fifo(parts), UART_ISR_FIFOS_ENABLED0 | UART_ISR_FIFOS_ENABLED1);
+    return uart_flag_isr(uart_chip_fifo(parts), UART_ISR_FIFOS_ENABLED);
 }
 
 /* Returns whether a read of ISR that shows this interrupt acknowledges it. */
@@ -1697,8 +1579,7 @@ static inline bool uart_is_thr_empty(struct uart_maybe_interrupt_type interrupt)
 /*
  * Returns the low nibble of an ISR value that identifies this interrupt.
  *
- * Proved: bit 0 is clear, so an interrupt is pending, and the code is that of this
- * interrupt.
+ * Proved: bit 0 is clear, so an interrupt is pending, and the code is that of this interrupt.
  */
 static inline uint8_t uart_interrupt_type_to_bits(enum uart_interrupt_type interrupt_type)
 {
@@ -1742,23 +1623,25 @@ static inline uint8_t uart_read_interrupt(struct uart_chip *parts)
 /* Returns what a read of MSR returns, and clears the changes, as the read does. */
 static inline uint8_t uart_chip_modem_read(struct uart_chip_modem *modem)
 {
-    uint8_t msr = modem->lines;
-    uint8_t msr2 = modem->deltas;
+    uint8_t lines = modem->lines;
+    uint8_t deltas = modem->deltas;
     modem->deltas = 0;
-    return msr | msr2;
+    return lines | deltas;
 }
 
 /* Returns the modem lines as plain data. */
 static inline struct uart_modem_data uart_chip_modem_data(const struct uart_chip_modem *modem)
 {
-    return uart_make_modem_data(modem->inputs, modem->lines, modem->deltas);
+    struct uart_modem_data modem_data = { modem->inputs, modem->lines, modem->deltas };
+    return modem_data;
 }
 
 /* The lines as C keeps them. */
 static inline struct uart_modem uart_saved(const struct uart_chip_modem *modem)
 {
     struct uart_modem_data data = uart_chip_modem_data(modem);
-    return uart_make_modem(data.inputs, data.lines, data.deltas);
+    struct uart_modem modem2 = { data.inputs, data.lines, data.deltas };
+    return modem2;
 }
 
 /* A read of the modem status register, which clears the changes. */
@@ -1771,8 +1654,7 @@ static inline uint8_t uart_modem_read(struct uart_modem *uart_modem)
 }
 
 /*
- * Returns what a read of MSR returns, and clears the changes of the modem lines, as the read
- * does.
+ * Returns what a read of MSR returns, and clears the changes of the modem lines, as the read does.
  */
 static inline uint8_t uart_chip_read_modem(struct uart_chip *uart_chip)
 {
@@ -1863,11 +1745,10 @@ static inline uint8_t uart_flag_msr(bool on, uint8_t bits)
 /* Returns the lines in loopback, where the outputs replace the inputs. */
 static inline uint8_t uart_looped_lines(uint8_t mcr)
 {
-    uint8_t flag_msr = uart_flag_msr((mcr & UART_MCR_RTS) != 0, UART_MSR_CTS);
-    uint8_t flag_msr2 = uart_flag_msr((mcr & UART_MCR_DTR) != 0, UART_MSR_DSR);
-    uint8_t flag_msr3 = uart_flag_msr((mcr & UART_MCR_OUT_1) != 0, UART_MSR_RI);
-    return flag_msr | flag_msr2 |
-        (flag_msr3 | uart_flag_msr((mcr & UART_MCR_OUT_2_INT_ENABLE) != 0, UART_MSR_CD));
+    uint8_t cts = uart_flag_msr((mcr & UART_MCR_RTS) != 0, UART_MSR_CTS);
+    uint8_t dsr = uart_flag_msr((mcr & UART_MCR_DTR) != 0, UART_MSR_DSR);
+    uint8_t ri = uart_flag_msr((mcr & UART_MCR_OUT_1) != 0, UART_MSR_RI);
+    return cts | dsr | (ri | uart_flag_msr((mcr & UART_MCR_OUT_2_INT_ENABLE) != 0, UART_MSR_CD));
 }
 
 /* Returns the lines under this value of MCR. */
@@ -1890,12 +1771,12 @@ static inline bool uart_msr_is_changed(uint8_t msr, uint8_t before, uint8_t line
  */
 static inline uint8_t uart_msr_changes_since(uint8_t msr, uint8_t before)
 {
-    uint8_t ri = uart_flag_msr(uart_msr_is_changed(msr, before, UART_MSR_CTS), UART_MSR_DELTA_CTS);
-    uint8_t cd = uart_flag_msr(uart_msr_is_changed(msr, before, UART_MSR_DSR), UART_MSR_DELTA_DSR);
+    uint8_t cts = uart_flag_msr(uart_msr_is_changed(msr, before, UART_MSR_CTS), UART_MSR_DELTA_CTS);
+    uint8_t dsr = uart_flag_msr(uart_msr_is_changed(msr, before, UART_MSR_DSR), UART_MSR_DELTA_DSR);
     uint8_t flag_msr =
         uart_flag_msr((before & UART_MSR_RI) != 0 && (msr & UART_MSR_RI) == 0,
         UART_MSR_TRAILING_EDGE_RI);
-    return ri | cd |
+    return cts | dsr |
         (flag_msr | uart_flag_msr(uart_msr_is_changed(msr, before, UART_MSR_CD),
         UART_MSR_DELTA_CD));
 }
@@ -1904,8 +1785,8 @@ static inline uint8_t uart_msr_changes_since(uint8_t msr, uint8_t before)
 static inline void uart_chip_modem_renew(struct uart_chip_modem *modem, uint8_t mcr)
 {
     uint8_t lines = uart_lines_under(mcr, modem->inputs);
-    uint8_t msr = modem->deltas;
-    modem->deltas = msr | uart_msr_changes_since(lines, modem->lines);
+    uint8_t deltas = modem->deltas;
+    modem->deltas = deltas | uart_msr_changes_since(lines, modem->lines);
     modem->lines = lines;
 }
 
@@ -1943,7 +1824,7 @@ UART_SELDOM uint32_t uart_chip_set_lines(struct uart_chip *chip, uint8_t inputs)
 {
     if (chip == NULL)
         return UART_NULL_POINTER;
-    if ((inputs & (UART_MSR_CTS | UART_MSR_DSR | UART_MSR_RI | UART_MSR_CD)) != inputs)
+    if ((inputs & UART_MSR_LINES) != inputs)
         return UART_BAD_LINES;
     uart_change_lines(chip, inputs);
     return UART_OK;
@@ -1960,21 +1841,20 @@ static inline uint8_t uart_wire_pop_front(struct uart_wire *uart_wire)
 }
 
 /*
- * Takes bytes from the front: as many as there are, and as bytes has room for. Returns how
- * many.
+ * Takes bytes from the front: as many as there are, and as bytes has room for. Returns how many.
  */
 static inline size_t uart_wire_take(struct uart_wire *uart_wire, uint8_t *bytes, size_t bytes_len)
 {
     size_t wire_len = uart_wire_len(uart_wire);
-    size_t number = wire_len < bytes_len ? wire_len : bytes_len;
-    for (size_t i = 0; i < number; i++)
+    size_t count = wire_len < bytes_len ? wire_len : bytes_len;
+    for (size_t i = 0; i < count; i++)
         bytes[i] = uart_wire_pop_front(uart_wire);
-    return number;
+    return count;
 }
 
 /*
- * Takes bytes from the front of the wire: as many as there are, and as bytes has room for.
- * Returns how many.
+ * Takes bytes from the front of the wire: as many as there are, and as bytes has room for. Returns
+ * how many.
  *
  * Proved: a length is within the FIFO.
  */
@@ -2011,13 +1891,20 @@ uart_next_move(const struct uart_transmitter *parts, bool loopback)
 {
     struct uart_maybe_shifting found = uart_transmitter_shifting(parts);
     if (found.is_some) {
-        if (loopback || uart_transmitter_has_room(parts))
-            return uart_some_u16(1 < found.value.ticks_left ? found.value.ticks_left : 1);
-        return uart_no_u16();
+        if (loopback || uart_transmitter_has_room(parts)) {
+            struct uart_maybe_u16 u16 =
+                { true, (uint16_t)(1 < found.value.ticks_left ? found.value.ticks_left : 1) };
+            return u16;
+        }
+        struct uart_maybe_u16 u162 = { false, 0 };
+        return u162;
     }
-    if (uart_transmitter_queue_len(parts) == 0)
-        return uart_no_u16();
-    return uart_some_u16(1);
+    if (uart_transmitter_queue_len(parts) == 0) {
+        struct uart_maybe_u16 u16 = { false, 0 };
+        return u16;
+    }
+    struct uart_maybe_u16 u163 = { true, 1 };
+    return u163;
 }
 
 /* Sets the character in the shift register. */
@@ -2037,10 +1924,12 @@ static inline void uart_count_down(struct uart_transmitter *parts, uint16_t tick
 {
     struct uart_maybe_shifting found = uart_transmitter_shifting(parts);
     if (found.is_some) {
-        uart_transmitter_set_shifting(parts,
-            uart_some_shifting(uart_make_shifting(found.value.byte,
-            ticks < found.value.ticks_left ? (uint16_t)(found.value.ticks_left - ticks)
-            : (1 < found.value.ticks_left ? 1 : found.value.ticks_left))));
+        struct uart_maybe_shifting shifting =
+            { true,
+            { found.value.byte,
+            (uint16_t)(ticks < found.value.ticks_left ? (uint16_t)(found.value.ticks_left - ticks)
+            : (1 < found.value.ticks_left ? 1 : found.value.ticks_left)) } };
+        uart_transmitter_set_shifting(parts, shifting);
     }
 }
 
@@ -2048,7 +1937,7 @@ static inline void uart_count_down(struct uart_transmitter *parts, uint16_t tick
 static inline void uart_count_up(struct uart_receiver *parts, uint16_t ticks)
 {
     if (0 < ticks) {
-        struct uart_timeout timeout = uart_make_timeout(parts->timeout_ticks, parts->timeout_limit);
+        struct uart_timeout timeout = { parts->timeout_ticks, parts->timeout_limit };
         uint16_t number = (uint16_t)(UINT32_C(65535) - ticks);
         uint16_t number2 = timeout.ticks <= number ? (uint16_t)(timeout.ticks + ticks)
             : UINT32_C(65535);
@@ -2079,26 +1968,33 @@ static inline void uart_transmitter_send(struct uart_transmitter *uart_transmitt
  * Lets one tick pass in the shift register, and returns the byte that loopback returns in it. If
  * the wire is full, the byte waits in the shift register at its last tick, so none is lost.
  */
-static inline struct uart_maybe_u8 uart_shift(struct uart_transmitter *parts, bool loopback)
+static struct uart_maybe_u8 uart_shift(struct uart_transmitter *parts, bool loopback)
 {
     struct uart_maybe_shifting found = uart_transmitter_shifting(parts);
-    if (!found.is_some)
-        return uart_no_u8();
+    if (!found.is_some) {
+        struct uart_maybe_u8 u8 = { false, 0 };
+        return u8;
+    }
     if (1 < found.value.ticks_left) {
-        uart_transmitter_set_shifting(parts,
-            uart_some_shifting(uart_make_shifting(found.value.byte,
-            (uint16_t)(found.value.ticks_left - 1))));
-        return uart_no_u8();
+        struct uart_maybe_shifting shifting =
+            { true, { found.value.byte, (uint16_t)(found.value.ticks_left - 1) } };
+        uart_transmitter_set_shifting(parts, shifting);
+        struct uart_maybe_u8 u8 = { false, 0 };
+        return u8;
     }
     if (loopback) {
-        uart_transmitter_set_shifting(parts, uart_no_shifting());
-        return uart_some_u8(found.value.byte);
+        struct uart_maybe_shifting shifting = { false, { 0, 0 } };
+        uart_transmitter_set_shifting(parts, shifting);
+        struct uart_maybe_u8 u8 = { true, found.value.byte };
+        return u8;
     }
     if (uart_transmitter_has_room(parts)) {
         uart_transmitter_send(parts, found.value.byte);
-        uart_transmitter_set_shifting(parts, uart_no_shifting());
+        struct uart_maybe_shifting shifting = { false, { 0, 0 } };
+        uart_transmitter_set_shifting(parts, shifting);
     }
-    return uart_no_u8();
+    struct uart_maybe_u8 u82 = { false, 0 };
+    return u82;
 }
 
 /* The items behind those of a FIFO of 16 move down by one place, as many as wait. */
@@ -2112,8 +2008,8 @@ static UART_APART void uart_drop_others_u8(uint8_t *items, size_t items_len, siz
 }
 
 /*
- * The items behind the front move down by one place, as many as wait.
- * In blocks of a constant size: a move of any number of items would call memmove.
+ * The items behind the front move down by one place, as many as wait. In blocks of a constant
+ * size: a move of any number of items would call memmove.
  */
 static inline void uart_drop_front_u8(uint8_t *items, size_t items_len, size_t count)
 {
@@ -2126,17 +2022,21 @@ static inline void uart_drop_front_u8(uint8_t *items, size_t items_len, size_t c
 static inline struct uart_maybe_u8
 uart_pop_front_u8(uint8_t *len, uint8_t *items, size_t items_len, uint8_t fifo_size)
 {
-    if (*len == 0)
-        return uart_no_u8();
+    if (*len == 0) {
+        struct uart_maybe_u8 u8 = { false, 0 };
+        return u8;
+    }
     uint8_t number = items[0 * sizeof(uint8_t)];
     if (*len == 1) {
         *len = 0;
-        return uart_some_u8(number);
+        struct uart_maybe_u8 u8 = { true, number };
+        return u8;
     }
     size_t count = uart_count(*len, fifo_size);
     uart_drop_front_u8(items, items_len, count);
     *len = (uint8_t)((uint8_t)count - 1);
-    return uart_some_u8(number);
+    struct uart_maybe_u8 u82 = { true, number };
+    return u82;
 }
 
 /* Removes the front of the queue, and returns it. */
@@ -2153,8 +2053,8 @@ static inline void uart_refill(struct uart_transmitter *parts)
         return;
     struct uart_maybe_u8 found = uart_transmitter_pop(parts);
     if (found.is_some) {
-        uart_transmitter_set_shifting(parts,
-            uart_some_shifting(uart_make_shifting(found.value, parts->char_ticks)));
+        struct uart_maybe_shifting shifting = { true, { found.value, parts->char_ticks } };
+        uart_transmitter_set_shifting(parts, shifting);
         if (uart_transmitter_queue_len(parts) == 0)
             parts->is_thr_pending = (uint8_t)true;
     }
@@ -2178,8 +2078,10 @@ uart_transmitting_tick(struct uart_transmitter *parts, bool loopback)
 static inline void
 uart_receiving_tick(struct uart_receiver *parts, bool fifo, struct uart_maybe_u8 looped)
 {
-    if (looped.is_some)
-        uart_enter(parts, fifo, uart_make_chip_character(looped.value, 0, uart_origin_looped()));
+    if (looped.is_some) {
+        struct uart_chip_character chip_character = { looped.value, 0, { UART_ORIGIN_LOOPED, 0 } };
+        uart_enter(parts, fifo, chip_character);
+    }
     uart_count_up(parts, 1);
 }
 
@@ -2196,29 +2098,29 @@ static inline void uart_controlling_tick(struct uart_chip *parts)
  * Lets n ticks pass, and returns the number of jumps that this took.
  *
  * A jump ends at the tick in which a character enters or leaves the shift register, or takes all
- * ticks that are left. So its cost does not grow with the number of ticks.
- * A jump skips the ticks before that tick, and then makes it as any other tick. So the start and
- * the end of a character have no second definition. With FIFOs of 16 at most 17 characters move,
- * and one jump takes what is left: 18 jumps are enough for any number of ticks.
+ * ticks that are left. So its cost does not grow with the number of ticks. A jump skips the ticks
+ * before that tick, and then makes it as any other tick. So the start and the end of a character
+ * have no second definition. With FIFOs of 16 at most 17 characters move, and one jump takes what
+ * is left: 18 jumps are enough for any number of ticks.
  */
 static inline size_t uart_advance(struct uart_chip *parts, uint16_t n)
 {
-    uint16_t left = n;
-    size_t jumps = 0;
-    while (0 < left) {
-        bool loopback = uart_is_loopback(parts);
-        struct uart_maybe_u16 found = uart_next_move(&parts->transmitter, loopback);
-        if (found.is_some && found.value <= left) {
+    uint16_t ticks = n;
+    size_t left = 0;
+    while (0 < ticks) {
+        bool jumps = uart_is_loopback(parts);
+        struct uart_maybe_u16 found = uart_next_move(&parts->transmitter, jumps);
+        if (found.is_some && found.value <= ticks) {
             uart_skip(parts, (uint16_t)(found.value - 1));
             uart_controlling_tick(parts);
-            left = (uint16_t)(left - found.value);
+            ticks = (uint16_t)(ticks - found.value);
         } else {
-            uart_skip(parts, left);
-            left = 0;
+            uart_skip(parts, ticks);
+            ticks = 0;
         }
-        jumps++;
+        left++;
     }
-    return jumps;
+    return left;
 }
 
 /* So many ticks pass. */
@@ -2274,8 +2176,8 @@ static inline struct uart_virtual_todo uart_asked(struct uart_todo todo)
 }
 
 /*
- * The host brought something, or took output, and the port asked for this. All of it is to be
- * done now.
+ * The host brought something, or took output, and the port asked for this. All of it is to be done
+ * now.
  */
 static inline void uart_after_host_clock(bool *clock, struct uart_virtual_todo todo)
 {
@@ -2295,10 +2197,10 @@ void uart_clock_after_host(struct uart_clock *clock, const struct uart_todo *tod
 }
 
 /*
- * Returns what the guest's read of this register is, as far as signals are concerned.
- * Only a read of ISR is a look. With LSR and MSR, a handler that reads LSR before each byte, as
- * most do, would be signalled for each byte, as long as more wait. A handler that never reads ISR
- * is signalled each time that the line falls and rises, so it cannot wait for ever.
+ * Returns what the guest's read of this register is, as far as signals are concerned. Only a read
+ * of ISR is a look. With LSR and MSR, a handler that reads LSR before each byte, as most do, would
+ * be signalled for each byte, as long as more wait. A handler that never reads ISR is signalled
+ * each time that the line falls and rises, so it cannot wait for ever.
  */
 static inline struct uart_kind uart_kind_of_read(uint8_t offset)
 {
@@ -2312,8 +2214,8 @@ static inline struct uart_kind uart_kind_of_read(uint8_t offset)
 }
 
 /*
- * Takes the signal from todo, if it waits. What was put off before is no longer owed if a
- * signal is given, or if the line is down.
+ * Takes the signal from todo, if it waits. What was put off before is no longer owed if a signal
+ * is given, or if the line is down.
  */
 static inline void uart_clock_put_off(bool *clock, bool waits, struct uart_virtual_todo *todo)
 {
@@ -2323,9 +2225,9 @@ static inline void uart_clock_put_off(bool *clock, bool waits, struct uart_virtu
 }
 
 /*
- * The guest read this register, and the port asked for this. Takes the signal from todo if
- * it can wait: the register is DATA, and the line was up before. Returns whether that is so:
- * then the time begins, after which the monitor calls Clock_pass_time.
+ * The guest read this register, and the port asked for this. Takes the signal from todo if it can
+ * wait: the register is DATA, and the line was up before. Returns whether that is so: then the
+ * time begins, after which the monitor calls pass_time.
  */
 static inline bool
 uart_after_read_clock(bool *clock, uint8_t offset, struct uart_virtual_todo *todo)
@@ -2373,9 +2275,9 @@ static inline struct uart_kind uart_kind_of_write(uint8_t offset)
 }
 
 /*
- * The guest wrote this register, and the port asked for this. Takes the signal from todo if
- * it can wait: the register is DATA. Returns whether that is so: then the time begins, after
- * which the monitor calls Clock_pass_time.
+ * The guest wrote this register, and the port asked for this. Takes the signal from todo if it can
+ * wait: the register is DATA. Returns whether that is so: then the time begins, after which the
+ * monitor calls pass_time.
  */
 static inline bool
 uart_after_write_clock(bool *clock, uint8_t offset, struct uart_virtual_todo *todo)
@@ -2447,15 +2349,15 @@ static inline struct uart_virtual_told uart_told_known(struct uart_told uart_tol
 }
 
 /*
- * Returns whether the FIFO has room for one more character.
- * Each has room for 16, so mostly there is no need to look at its size.
+ * Returns whether the FIFO has room for one more character. Each has room for 16, so mostly there
+ * is no need to look at its size.
  */
 static inline bool uart_receiver_has_place(const struct uart_receiver *uart_receiver)
 {
     bool is_so = (uint64_t)uart_receiver->queue.len < 16;
     if (!is_so) {
-        uint8_t number = uart_receiver->queue.len;
-        is_so = number < uart_places_of(uart_receiver->fifo_size);
+        uint8_t len = uart_receiver->queue.len;
+        is_so = len < uart_places_of(uart_receiver->fifo_size);
     }
     return is_so;
 }
@@ -2523,47 +2425,62 @@ uart_room_after(struct uart_kind kind, struct uart_seen seen, struct uart_virtua
 }
 
 /*
- * Returns how many more accesses of DATA the last signal covers.
+ * Returns how many more falls of the line the last signal covers.
  *
- * A burst of 16 bytes takes the line down 16 times. The first of them is signalled, which calls the
- * guest's handler again once it is done; 15 signals more would say nothing. But a guest that does
- * not look may have returned from its handler before any of them. So a signal covers others only
- * after a look, and no more than a FIFO has room for: rest says how many that are, with the one
- * access in which the signal is given.
+ * A burst of 16 bytes takes the line down 16 times. The first of them is signalled, which calls
+ * the guest's handler again once it is done; 15 signals more would say nothing. But a guest that
+ * does not look may have returned from its handler before any of them. So a signal covers others
+ * only after a look, and no more than a FIFO has room for: rest says how many that are, with the
+ * one access in which the signal is given. An access in which the line stays up uses none of them:
+ * so what another processor prints meanwhile takes nothing from a handler that reads.
  */
 static uint8_t
-uart_spare_after(struct uart_kind kind, bool signal, uint8_t rest, struct uart_virtual_told told)
+uart_spare_after(struct uart_kind kind, bool was_up, bool signal, uint8_t rest,
+    struct uart_virtual_told told)
 {
+    bool is_so = told.line && !was_up;
     if (kind.looks)
         return 0;
     if (signal) {
         uint8_t number;
-        bool is_so;
+        bool is_so2;
         if (kind.moves_data) {
             if (told.has_looked) {
                 number = rest;
-                is_so = false;
+                is_so2 = false;
             } else {
-                is_so = true;
+                is_so2 = true;
             }
         } else {
-            is_so = true;
+            is_so2 = true;
         }
-        if (is_so)
+        if (is_so2)
             number = 0;
         return number;
     }
-    if (kind.moves_data)
-        return 1 <= told.spare ? (uint8_t)(told.spare - 1) : 0;
-    return told.spare;
+    uint8_t spare;
+    bool is_so3;
+    if (kind.moves_data) {
+        if (is_so) {
+            spare = 1 <= told.spare ? (uint8_t)(told.spare - 1) : 0;
+            is_so3 = false;
+        } else {
+            is_so3 = true;
+        }
+    } else {
+        is_so3 = true;
+    }
+    if (is_so3)
+        spare = told.spare;
+    return spare;
 }
 
 /*
  * Returns what is to be told after a call of this kind, and notes that it was told. was_up says
  * whether the line was up all the time.
  *
- * A port over another chip, as the one for C, tells its monitor by this too.
- * Inlined in any case: of most calls the kind is known, and little of this is left.
+ * A port over another chip, as the one for C, tells its monitor by this too. Inlined in any case:
+ * of most calls the kind is known, and little of this is left.
  */
 static inline struct uart_virtual_todo
 uart_tell(struct uart_seen seen, bool was_up, struct uart_virtual_told *told, struct uart_kind kind)
@@ -2580,7 +2497,7 @@ uart_tell(struct uart_seen seen, bool was_up, struct uart_virtual_told *told, st
     told2.line = seen.level;
     told2.has_room = has_room;
     told2.has_looked = kind.looks || (told->has_looked && !signal);
-    told2.spare = uart_spare_after(kind, signal, seen.rest, *told);
+    told2.spare = uart_spare_after(kind, was_up, signal, seen.rest, *told);
     *told = told2;
     return todo;
 }
@@ -2599,10 +2516,10 @@ static inline struct uart_told uart_told_of(struct uart_virtual_told told)
 /*
  * Says what is to be told after a call, and notes that it was told.
  *
- * Proved: the whole chip, but for bytes behind the end of a queue and those of an empty
- * shift register.
- * Proved: a port whose data are the one value for their meaning, but for bytes of its chip
- * that mean nothing.
+ * Proved: the whole chip, but for bytes behind the end of a queue and those of an empty shift
+ * register.
+ * Proved: a port whose data are the one value for their meaning, but for bytes of its chip that
+ * mean nothing.
  */
 static inline void
 uart_decide(struct uart_port *port, bool was_up, struct uart_kind kind, struct uart_todo *todo)
@@ -2622,12 +2539,12 @@ uart_port_load(struct uart_port *port, const struct uart_chip *saved, struct uar
     if (!uart_is_sound(saved) || !uart_is_settled(saved))
         return UART_BAD_PORT;
     uart_chip_restore(&port->chip, saved);
-    struct uart_told uart_told;
-    uart_told.line = 0;
-    uart_told.has_room = 0;
-    uart_told.has_looked = 0;
-    uart_told.spare = 0;
-    port->told = uart_told;
+    struct uart_told told;
+    told.line = 0;
+    told.has_room = 0;
+    told.has_looked = 0;
+    told.spare = 0;
+    port->told = told;
     struct uart_kind kind;
     kind.brings = false;
     kind.looks = false;
@@ -2647,8 +2564,8 @@ static inline uint16_t uart_settle_ticks(enum uart_fifo_size size)
  * Lets the time of a call pass. If the transmitter holds nothing, as in most calls, a reception
  * timeout is all that time brings, and nothing if that is due.
  *
- * Proved: the whole chip, but for bytes behind the end of a queue and those of an empty
- * shift register.
+ * Proved: the whole chip, but for bytes behind the end of a queue and those of an empty shift
+ * register.
  */
 static inline void uart_settle(struct uart_chip *chip)
 {
@@ -2663,18 +2580,18 @@ static inline void uart_settle(struct uart_chip *chip)
 /*
  * Makes a port after power on, with FIFOs of this size.
  *
- * Proved: a port whose data are the one value for their meaning, but for bytes of its chip
- * that mean nothing.
+ * Proved: a port whose data are the one value for their meaning, but for bytes of its chip that
+ * mean nothing.
  */
 static void uart_power_on(struct uart_port *port, uint8_t model, uint8_t fifo_size)
 {
     uart_chip_power_on(&port->chip, model, fifo_size, 1, 64, 0);
-    struct uart_told uart_told;
-    uart_told.line = 0;
-    uart_told.has_room = 0;
-    uart_told.has_looked = 0;
-    uart_told.spare = 0;
-    port->told = uart_told;
+    struct uart_told told;
+    told.line = 0;
+    told.has_room = 0;
+    told.has_looked = 0;
+    told.spare = 0;
+    port->told = told;
     uart_settle(&port->chip);
     struct uart_todo uart_todo;
     uart_todo.ready = 0;
@@ -2711,23 +2628,23 @@ UART_SELDOM uint32_t uart_port_new_sized(struct uart_port *port, uint8_t model, 
 }
 
 /*
- * Returns whether a call of this kind leaves nothing to be told, as most do that find no interrupt.
+ * Returns whether a call of this kind leaves nothing to be told, as most do that find no
+ * interrupt.
  */
 static inline bool uart_leaves_nothing(const struct uart_port *port, struct uart_kind kind)
 {
     return !kind.looks &&
         (port->told.line == 0 &&
-        (port->told.spare == 0 &&
         (port->told.has_room != 0 &&
-        (uart_has_room(&port->chip) && !uart_is_interrupting(&port->chip)))));
+        (uart_has_room(&port->chip) && !uart_is_interrupting(&port->chip))));
 }
 
 /*
  * Does the same as decide, which is called only if something is new: it writes all that the
  * monitor was told, which takes as long as the rest of a call.
  *
- * Proved: a port whose data are the one value for their meaning, but for bytes of its chip
- * that mean nothing.
+ * Proved: a port whose data are the one value for their meaning, but for bytes of its chip that
+ * mean nothing.
  */
 UART_INLINE void
 uart_port_report(struct uart_port *port, bool was_up, struct uart_kind kind, struct uart_todo *todo)
@@ -2748,8 +2665,8 @@ uart_port_report(struct uart_port *port, bool was_up, struct uart_kind kind, str
 /*
  * Lets the time of a call pass, and says what is to be told.
  *
- * Proved: a port whose data are the one value for their meaning, but for bytes of its chip
- * that mean nothing.
+ * Proved: a port whose data are the one value for their meaning, but for bytes of its chip that
+ * mean nothing.
  */
 UART_INLINE void
 uart_finish(struct uart_port *port, bool was_up, struct uart_kind kind, struct uart_todo *todo)
@@ -2762,8 +2679,8 @@ uart_finish(struct uart_port *port, bool was_up, struct uart_kind kind, struct u
  * Does the same as finish, if what happened is all that the line was to show. If the monitor was
  * told that it was down, it does not matter whether it was up meanwhile.
  *
- * Proved: a port whose data are the one value for their meaning, but for bytes of its chip
- * that mean nothing.
+ * Proved: a port whose data are the one value for their meaning, but for bytes of its chip that
+ * mean nothing.
  */
 UART_INLINE void
 uart_conclude(struct uart_port *port, struct uart_kind kind, struct uart_todo *todo)
@@ -2792,8 +2709,8 @@ uint8_t uart_port_read(struct uart_port *port, uint8_t offset, struct uart_todo 
 /*
  * These characters arrive, without errors.
  *
- * Proved: the whole chip, but for bytes behind the end of a queue and those of an empty
- * shift register.
+ * Proved: the whole chip, but for bytes behind the end of a queue and those of an empty shift
+ * register.
  */
 static inline void uart_arrive_all(struct uart_chip *chip, const uint8_t *bytes, size_t bytes_len)
 {
@@ -2808,15 +2725,15 @@ uart_port_receive(struct uart_port *port, const uint8_t *bytes, size_t len, stru
     if (port == NULL || bytes == NULL || todo == NULL)
         return 0;
     size_t room = uart_controlling_receive_room(&port->chip);
-    size_t number = room < len ? room : len;
+    size_t count = room < len ? room : len;
     struct uart_kind kind;
-    kind.brings = 0 < number;
+    kind.brings = 0 < count;
     kind.looks = false;
     kind.moves_data = false;
     kind.may_make_room = false;
-    uart_arrive_all(&port->chip, bytes, number);
+    uart_arrive_all(&port->chip, bytes, count);
     uart_conclude(port, kind, todo);
-    return number;
+    return count;
 }
 
 /* A character comes in, with errors. */
@@ -2825,10 +2742,8 @@ uart_port_receive_one(struct uart_port *port, uint8_t byte, uint8_t errors, stru
 {
     if (port == NULL || todo == NULL)
         return UART_NULL_POINTER;
-    if ((errors & (UART_LSR_PARITY_ERROR | UART_LSR_FRAMING_ERROR |
-        UART_LSR_BREAK_INTERRUPT)) != errors) {
+    if ((errors & UART_LSR_CHARACTER_ERRORS) != errors)
         return UART_BAD_ERRORS;
-    }
     uart_controlling_arrive_live(&port->chip, byte, errors);
     struct uart_kind kind;
     kind.brings = true;
@@ -2853,7 +2768,7 @@ uart_port_set_lines(struct uart_port *port, uint8_t inputs, struct uart_todo *to
 {
     if (port == NULL || todo == NULL)
         return UART_NULL_POINTER;
-    if ((inputs & (UART_MSR_CTS | UART_MSR_DSR | UART_MSR_RI | UART_MSR_CD)) != inputs)
+    if ((inputs & UART_MSR_LINES) != inputs)
         return UART_BAD_LINES;
     uart_change_lines(&port->chip, inputs);
     struct uart_kind kind;
@@ -2924,14 +2839,13 @@ static inline void uart_transmitter_put(struct uart_transmitter *uart_transmitte
 /* Counts a byte that was written while there was no room. The count saturates. */
 static inline void uart_transmitter_count_overflow(struct uart_transmitter *uart_transmitter)
 {
-    uint64_t number = uart_transmitter->overflows;
-    uart_transmitter->overflows = number <= (uint64_t)-1 - 1 ? number + 1 : (uint64_t)-1;
+    uint64_t overflows = uart_transmitter->overflows;
+    uart_transmitter->overflows = overflows <= (uint64_t)-1 - 1 ? overflows + 1 : (uint64_t)-1;
 }
 
 /*
  * Takes a byte that is written to DATA. If there is no room, the FIFO loses it, and THR loses the
- * byte that it held.
- * A write clears a pending THR_EMPTY interrupt even if there is no room.
+ * byte that it held. A write clears a pending THR_EMPTY interrupt even if there is no room.
  */
 static inline void uart_load(struct uart_transmitter *parts, bool fifo, uint8_t byte)
 {
@@ -2968,15 +2882,15 @@ static inline void uart_write_data(struct uart_chip *parts, uint8_t value)
 /* Writes IER. */
 static inline void uart_enable(struct uart_chip *parts, uint8_t interrupts)
 {
-    struct uart_chip_latches chip_latches = uart_chip_latches_of(parts);
-    if ((chip_latches.ier & UART_IER_THR_EMPTY) == 0 &&
+    struct uart_chip_latches latches = uart_chip_latches_of(parts);
+    if ((latches.ier & UART_IER_THR_EMPTY) == 0 &&
         ((interrupts & UART_IER_THR_EMPTY) != 0 &&
         uart_transmitter_queue_len(&parts->transmitter) == 0)) {
         parts->transmitter.is_thr_pending = (uint8_t)true;
     }
-    struct uart_chip_latches latches = chip_latches;
-    latches.ier = uart_kept_interrupts(interrupts);
-    uart_chip_set_latches(parts, latches);
+    struct uart_chip_latches latches2 = latches;
+    latches2.ier = uart_kept_interrupts(interrupts);
+    uart_chip_set_latches(parts, latches2);
 }
 
 /* Empties the queue. Its characters are discarded. */
@@ -3011,11 +2925,9 @@ static inline void uart_reset_transmitter(struct uart_chip *parts, uint8_t value
 }
 
 /*
- * Returns the trigger level with this code, which is in the low two bits. Higher bits are
- * ignored.
+ * Returns the trigger level with this code, which is in the low two bits. Higher bits are ignored.
  *
- * Proved: this value and no other has the property.
- * Proved: the two bits from the lowest on are the code of this trigger level.
+ * Proved: the field is the code of this trigger level.
  */
 static inline enum uart_fifo_trigger_level uart_fifo_trigger_level_from_raw_bits(uint8_t bits)
 {
@@ -3034,8 +2946,7 @@ static inline enum uart_fifo_trigger_level uart_fifo_trigger_level_from_raw_bits
 /*
  * Returns the trigger level of the receiver FIFO.
  *
- * Proved: this value and no other has the property.
- * Proved: the two bits from the lowest on are the code of this trigger level.
+ * Proved: the field is the code of this trigger level.
  */
 static inline enum uart_fifo_trigger_level uart_fcr_fifo_trigger_level(uint8_t fcr)
 {
@@ -3062,10 +2973,10 @@ uart_receiver_set_trigger(struct uart_receiver *uart_receiver, enum uart_fifo_tr
  */
 static inline void uart_set_fifo(struct uart_chip *parts, uint8_t value)
 {
-    bool is_so = (value & UART_FCR_FIFO_ENABLE) != 0;
-    if (uart_chip_fifo(parts) != is_so)
-        uart_switch(parts, is_so);
-    if (is_so) {
+    bool enable = (value & UART_FCR_FIFO_ENABLE) != 0;
+    if (uart_chip_fifo(parts) != enable)
+        uart_switch(parts, enable);
+    if (enable) {
         uart_reset_receiver(parts, value);
         uart_reset_transmitter(parts, value);
         uart_receiver_set_trigger(&parts->receiver, uart_trigger_level(value));
@@ -3122,18 +3033,18 @@ static UART_APART void uart_write_register(struct uart_chip *parts, uint8_t offs
         uart_control(parts, value);
         break;
     case UART_OFFSET_LCR: {
-        struct uart_chip_latches latches2 = uart_chip_latches_of(parts);
-        latches2.lcr = value;
-        uart_chip_set_latches(parts, latches2);
+        struct uart_chip_latches latches = uart_chip_latches_of(parts);
+        latches.lcr = value;
+        uart_chip_set_latches(parts, latches);
         break;
     }
     case UART_OFFSET_MCR:
         uart_control_modem(parts, value);
         break;
     case UART_OFFSET_SPR: {
-        struct uart_chip_latches latches3 = uart_chip_latches_of(parts);
-        latches3.scr = value;
-        uart_chip_set_latches(parts, latches3);
+        struct uart_chip_latches latches = uart_chip_latches_of(parts);
+        latches.scr = value;
+        uart_chip_set_latches(parts, latches);
         break;
     }
     default:
@@ -3163,8 +3074,8 @@ static inline bool uart_queues_whole(const struct uart_chip *chip)
 /*
  * Writes DATA, whatever that is and does, out of line: most bytes need none of it.
  *
- * Proved: the whole chip, but for bytes behind the end of a queue and those of an empty
- * shift register.
+ * Proved: the whole chip, but for bytes behind the end of a queue and those of an empty shift
+ * register.
  */
 static UART_APART void uart_write_data_slowly(struct uart_chip *chip, uint8_t value)
 {
@@ -3208,15 +3119,34 @@ static inline bool uart_sends_at_once(const struct uart_chip *parts)
         (!uart_is_loopback(parts) && uart_is_ready(&parts->transmitter));
 }
 
-/*
- * Returns whether a write can be made by send: it is a byte that meets an idle transmitter, and
- * what is told does not depend on the level of the line in between.
- */
+/* Returns whether a write can be made by send: it is a byte that meets an idle transmitter. */
 static inline bool uart_is_fast(const struct uart_port *port, uint8_t offset)
 {
     return (uint64_t)offset == UART_OFFSET_DATA &&
-        (uart_sends_at_once(&port->chip) &&
-        (uart_is_settled(&port->chip) && ((port->told.line == 0) || (port->told.spare != 0))));
+        (uart_sends_at_once(&port->chip) && uart_is_settled(&port->chip));
+}
+
+/* Returns whether LSR shows an error of the line. The transmitter has no part in that. */
+static inline bool uart_has_line_errors(const struct uart_chip *parts)
+{
+    return (uart_receiver_status(&parts->receiver) & UART_LSR_LINE_ERRORS) != 0;
+}
+
+/*
+ * Returns whether the interrupt line is up if a reception timeout is due, and a THR-empty
+ * interrupt is pending or is not. Each character that waits is a cause then, so the trigger level
+ * and the ticks are not looked at.
+ *
+ * The is_thr_pending is false in each call, and so it is left out.
+ */
+static inline bool uart_interrupts_when_due(const struct uart_chip *parts)
+{
+    uint8_t enabled = uart_chip_ier(parts);
+    if ((enabled & UART_IER_DATA_READY) != 0 && 0 < uart_receiver_queue_len(&parts->receiver))
+        return true;
+    if ((enabled & UART_IER_RECEIVER_LINE_STATUS) != 0 && uart_has_line_errors(parts))
+        return true;
+    return (enabled & UART_IER_MODEM_STATUS) != 0 && uart_chip_has_modem_changes(parts);
 }
 
 /* Puts a byte onto the wire. THR is as empty as before, and that counts as a new interrupt. */
@@ -3240,22 +3170,23 @@ static inline void uart_send_at_once(struct uart_chip *parts, uint8_t value)
  * Does the same as write_slowly for a byte that can be sent at once: queue, shift register and
  * time are passed over.
  *
- * Proved: a port whose data are the one value for their meaning, but for bytes of its chip
- * that mean nothing.
+ * Proved: a port whose data are the one value for their meaning, but for bytes of its chip that
+ * mean nothing.
  */
 static inline void uart_send(struct uart_port *port, uint8_t value, struct uart_todo *todo)
 {
     struct uart_kind kind = uart_kind_of_write(0);
+    bool was_up = uart_interrupts_when_due(&port->chip);
     uart_send_at_once(&port->chip, value);
-    uart_port_report(port, false, kind, todo);
+    uart_port_report(port, was_up, kind, todo);
 }
 
 /*
- * Writes a register, and raises a THR-empty interrupt if this is a write of FCR that discards bytes
- * which the transmitter held: its queue is empty then.
+ * Writes a register, and raises a THR-empty interrupt if this is a write of FCR that discards
+ * bytes which the transmitter held: its queue is empty then.
  *
- * Proved: the whole chip, but for bytes behind the end of a queue and those of an empty
- * shift register.
+ * Proved: the whole chip, but for bytes behind the end of a queue and those of an empty shift
+ * register.
  */
 static inline void uart_write_and_raise(struct uart_chip *chip, uint8_t offset, uint8_t value)
 {
@@ -3268,8 +3199,8 @@ static inline void uart_write_and_raise(struct uart_chip *chip, uint8_t offset, 
 /*
  * Writes a register, and lets the time of a call pass.
  *
- * Proved: a port whose data are the one value for their meaning, but for bytes of its chip
- * that mean nothing.
+ * Proved: a port whose data are the one value for their meaning, but for bytes of its chip that
+ * mean nothing.
  */
 static UART_APART void
 uart_write_slowly(struct uart_port *port, uint8_t offset, uint8_t value, struct uart_todo *todo)
@@ -3569,19 +3500,20 @@ static void uart_state_characters(struct uart_state_reader *from, struct uart_ch
     uint8_t bytes[UART_FIFO_SIZE] = { 0 };
     uint8_t errors[UART_FIFO_SIZE] = { 0 };
     size_t offset;
-    uint32_t looped; /* it is shifted by up to 16 bits, which are all that unsigned may have */
+    uint16_t looped;
     uint8_t i;
 
     queue->len = uart_state_list(from, bytes, UART_FIFO_SIZE);
     uart_state_items(from, errors, queue->len, UART_FIFO_SIZE);
     offset = from->offset;
-    looped = (uint32_t)uart_state_number(from, 2);
-    if (looped >> queue->len)
-        uart_state_refuse(from, UART_STATE_BAD_VALUE, offset);
+    looped = (uint16_t)uart_state_number(from, 2);
     for (i = 0; i < UART_FIFO_SIZE; i++) {
+        if ((looped & 1) && i >= queue->len)
+            uart_state_refuse(from, UART_STATE_BAD_VALUE, offset);
         queue->items[i].byte = bytes[i];
         queue->items[i].errors = errors[i];
-        queue->items[i].is_looped = looped >> i & 1;
+        queue->items[i].is_looped = looped & 1;
+        looped >>= 1;
     }
 }
 
@@ -3622,10 +3554,11 @@ static void uart_state_more(struct uart_state_reader *from, struct uart_chip *ch
 
         offset = from->offset;
         looped = uart_state_byte(from);
-        for (bit = 0; bit < 8; bit++, looped >>= 1) {
+        for (bit = 0; bit < 8; bit++) {
             if ((looped & 1) && i + bit >= len)
                 uart_state_refuse(from, UART_STATE_BAD_VALUE, offset);
             queue->items[UART_FIFO_SIZE + i + bit].is_looped = looped & 1;
+            looped >>= 1;
         }
     }
 }

@@ -432,7 +432,7 @@ struct uart_told {
     uint8_t line;            /* the level of the interrupt line */
     uint8_t has_room;        /* the monitor may take it that there is room for input */
     uint8_t has_looked;      /* the guest has read ISR since the last signal */
-    uint8_t spare;           /* how many more accesses of DATA the last signal covers */
+    uint8_t spare;           /* how many more falls of the line the last signal covers */
 };
 
 /*

@@ -264,6 +264,7 @@ static void emergency(void)
 {
     struct u16550_config got;
     uint8_t lsr;
+    size_t count;
     emergency_keeps(0);
     emergency_keeps(U16550_MCR_OUT_1);
     emergency_keeps(U16550_MCR_OUT_2_INT_ENABLE | LOOP_BACK);
@@ -279,6 +280,9 @@ static void emergency(void)
     IS(got.data_bits, 8);
     OK(u16550_lsr(&uart, &lsr));
     IS(lsr & U16550_LSR_OVERRUN_ERROR, 0);
+    /* It takes the FIFOs to be off. The chip may have none. */
+    OK(u16550_send_bytes(&uart, (const uint8_t *)"two", 3, &count));
+    IS(count, 1);
     /* A latch that does not close: as many writes as the spin limit, and a read in front of each and behind the last. */
     ready();
     OK(u16550_set_spin_limit(&uart, 5));

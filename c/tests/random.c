@@ -1,6 +1,8 @@
 /*
  * Calls in any order over a device that answers anything, and in the middle of each some others: each returns a
  * number that has a text, and one in the middle of another over the same driver returns U16550_BUSY. Prints how many were made.
+ *
+ * With FUZZED all choices are those of a fuzzer, by LLVMFuzzerTestOneInput.
  */
 #include <stdint.h>
 #include <stdio.h>
@@ -12,6 +14,27 @@
 
 enum { CALLS = 40000, NESTED_IN = 16, ROOM = 64 };
 
+#ifdef FUZZED
+static const uint8_t *choices;
+static size_t choices_left;
+
+static uint8_t next_choice(void)
+{
+    if (choices_left == 0)
+        return 0;
+    choices_left--;
+    return *choices++;
+}
+
+/* A number below this one, of one byte if that is enough. */
+static uint32_t below(uint32_t most)
+{
+    uint32_t chosen = next_choice();
+    if (most > 256)
+        chosen = chosen << 8 | next_choice();
+    return chosen % most;
+}
+#else
 static uint64_t seed = 1;
 
 /* A number below this one. */
@@ -22,6 +45,7 @@ static uint32_t below(uint32_t most)
     seed ^= seed << 17;
     return (uint32_t)(seed >> 20) % most;
 }
+#endif
 
 static uint32_t any_bits(void)
 {
@@ -336,23 +360,51 @@ static void compute(struct room *r)
     EACH_OF_CONFIG(COMPUTE)
 }
 
+/* Makes one call between two others. */
+static void make_one(struct room *room)
+{
+    unsigned which = below(LAST + 1);
+    int status = make(&uart, which, room);
+    if (strcmp(u16550_text(status), u16550_text(INT32_MAX)) == 0 || status == U16550_BUSY)
+        stop("between two calls", which, status);
+    if (status == U16550_NOT_MADE)
+        u16550_from_state(&uart, &device, &room->state);
+    u16550_set_spin_limit(&uart, 1 + below(20));
+    compute(room);
+    made++;
+}
+
+#ifdef FUZZED
+int LLVMFuzzerTestOneInput(const uint8_t *data, size_t size);
+
+int LLVMFuzzerTestOneInput(const uint8_t *data, size_t size)
+{
+    static struct room room;
+    choices = data;
+    choices_left = size;
+    device.read = read_any;
+    device.write = write_any;
+    memset(&uart, 0, sizeof uart);
+    memset(&bus, 0, sizeof bus);
+    memset(&chip, 0, sizeof chip);
+    memset(&notes, 0, sizeof notes);
+    while (choices_left > 0)
+        make_one(&room);
+    free(rings);
+    rings = NULL;
+    rings_size = 0;
+    return 0;
+}
+#else
 int main(void)
 {
     static struct room room;
-    int status;
     device.read = read_any;
     device.write = write_any;
-    for (made = 0; made < CALLS; made++) {
-        unsigned which = below(LAST + 1);
-        status = make(&uart, which, &room);
-        if (strcmp(u16550_text(status), u16550_text(INT32_MAX)) == 0 || status == U16550_BUSY)
-            stop("between two calls", which, status);
-        if (status == U16550_NOT_MADE)
-            u16550_from_state(&uart, &device, &room.state);
-        u16550_set_spin_limit(&uart, 1 + below(20));
-        compute(&room);
-    }
+    while (made < CALLS)
+        make_one(&room);
     free(rings);
     printf("version %s: %lu calls, and %lu in the middle of others\n", u16550_version(), made, nested);
     return nested == 0;
 }
+#endif

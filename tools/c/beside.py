@@ -15,6 +15,7 @@ import values
 from library import Library, Written
 from listed import NOT_EMPTY
 from representation import VECTOR
+from results import Form
 from translate import Dictionary, Native, Translation, Type, Unknown
 from tree import DEVICE, MEMORY, OF_CALLER, PORTS, Key
 
@@ -33,7 +34,7 @@ OUTSIDE = {
     "uart_kept_characters_keep": "a1.f1 >= 64",
     "uart_byte_queue_byte_at": "a2 >= a1.f2",
     "uart_copy_with_errors": "a2.f2 < a1.f2",
-    "uart_byte_queue_front_slices": "a2 > a1.f2",
+    "uart_byte_queue_front_parts": "a2 > a1.f2",
     "uart_byte_queue_receive_from": "a3 > a1.f0.f2 - a1.f2",
     "uart_receive": "a3 > a2.len() as u64 || a4 > a2.len() as u64 - a3",
 }
@@ -72,18 +73,15 @@ int main(void)
 """
 # What the driver calls: memory of the caller, the ports of a line, and a device.
 CALLED_BY_DRIVER = """
-static struct uart_maybe_vec_u8 uart_cells_in_memory(struct uart_memory *memory, uint8_t value, size_t count)
+static bool uart_cells_in_memory(struct uart_memory *memory, uint8_t value, size_t count, struct u16550_core_vec_u8 *cells)
 {
-    struct uart_maybe_vec_u8 made;
-    memset(&made, 0, sizeof made);
     if (count > memory->len)
-        return made;
-    made.is_some = true;
-    made.value.data = beside_memory(count);
-    made.value.len = made.value.capacity = count;
+        return false;
+    cells->data = beside_memory(count);
+    cells->len = cells->capacity = count;
     memory->len -= count;
-    memset(made.value.data, value, count);
-    return made;
+    memset(cells->data, value, count);
+    return true;
 }
 
 static inline size_t uart_line_ports_number(const struct uart_line_ports *ports)
@@ -162,13 +160,15 @@ class Beside:
     """What compares the functions of a library. `compared` has their names, and `left` those that are not, with the reason."""
 
     # Where in the C what is by hand begins, which nothing here calls; what stands in front of the C, and what it calls.
-    by_hand, before, called_by_it = BY_HAND, "", CALLED_BY_DRIVER
+    by_hand, before, called_by_it, header = BY_HAND, "", CALLED_BY_DRIVER, "u16550.h"
 
     def __init__(self, library: Library) -> None:
         self.library, self.types = library, library.types
         self.translation = Translation(library.forest.program, NATIVES, library.forest.own)
         self.makers, self.showers, self.texts, self.calls = dict[Type, str](), dict[Type, str](), list[str](), list[str]()
         self.compared, self.left = list[str](), dict[str, str]()
+        text = (HEADER / self.header).read_text(encoding="ascii")
+        self.numbers = {name: int(value, 0) for name, value in re.findall(r"\b(U16550_\w+) = (-?\w+)", text)}
         called = self.called()
         for key, written in library.functions.items():
             if written is None or written.name not in called or written.name in self.compared:
@@ -190,9 +190,33 @@ class Beside:
         """The names and types of the members that a struct has in C."""
         return self.types.fields(of)
 
-    def otherwise(self, found: list[int]) -> dict[str, tuple[str, str]]:
+    def otherwise(self, found: list[int]) -> dict[str, tuple[str, str | None]]:
         """How the side of the MIR makes and shows types of which the C has less, as `values.OF_MIR`. `found` are the numbers that are tried."""
-        return {}
+        out = dict[str, tuple[str, str | None]]()
+        for _, (of, (kind, parts)) in list(self.translation.shapes.items()):
+            told = self.types.told_of(of)
+            if told:
+                shown = " ".join(f"{tag} => {{ {self.shown_of_told(of, tag, part)} }}" for tag, part in enumerate(parts))
+                out[of[1]] = (f'match self.v0.f0 {{ {shown} _ => panic!("no variant") }}', None)
+            elif of[0] == "Named" and kind == "fields" and self.types.is_silent(of):
+                out[of[1]] = ("let _ = out;", None)
+        return out
+
+    def shown_of_told(self, of: Type, tag: int, part: Sequence[tuple[Type, str]]) -> str:
+        """How the side of the MIR shows a variant of an enum that a program knows: its number, and its parts if they are kept."""
+        told, variant = self.types.told_of(of), self.types.variants(of)[tag]
+        number = told.numbers.get(variant[0]) if told else None
+        if number is None:
+            return 'panic!("a variant without a number")'
+        if isinstance(number, str):
+            is_kept = told is not None and (told.is_kept or told.details is not None)
+            fields = "".join(f" {values.field(self.translation, f'self.v{tag}.f{order}', one)}" for order, (one, _) in enumerate(part, 1))
+            return f"out.push({self.numbers[number]});{fields if is_kept else ''}"
+        inner = {self.types.constant(variant[2][0], order): number[name] for order, (name, _, _) in enumerate(self.types.variants(variant[2][0]))}
+        cases = " ".join({f"{self.numbers[one]} => {self.numbers[other]}," for one, other in inner.items()})
+        return (
+            f"let inner = self.v{tag}.f1; let mut words = Vec::new(); inner.show(&mut words); out.push(match words[0] {{ {cases} _ => panic!() }});"
+        )
 
     # Values on the side of C.
 
@@ -247,6 +271,8 @@ class Beside:
             if self.types.is_unit(inner):
                 return f"{at} = beside_pick(2) == {tag};\n"
             return f"{at}.{flag} = beside_pick(2) == {tag};\nif ({at}.{flag}) {{\n{self.made_at(inner, f'{at}.{value}')}}}\n"
+        if word == "enum" and self.types.told_of(of):
+            return self.make_told(of, at)
         if word == "enum":
             return f"{at} = ({self.types.c(of).text()})(beside_pick({len(self.types.variants(of))}) + {self.first(of)});\n"
         if word == "tagged":
@@ -258,16 +284,24 @@ class Beside:
             return "".join(self.made_at(one, f"{at}.{name}") for name, one in self.fields(of))
         raise Unknown(f"a value of a type that is {word}")
 
+    def make_told(self, of: Type, at: str) -> str:
+        """The statements that make a number that a program knows."""
+        variants = self.types.variants(of)
+        cases = "".join(f"case {tag}:\n{at} = {self.types.constant(of, tag)};\nbreak;\n" for tag, _ in enumerate(variants))
+        return f"switch (beside_pick({len(variants)})) {{\n{cases}default: break;\n}}\n"
+
+    def kind_of(self, of: Type, tag: int) -> str:
+        """What a struct has as the number of a variant."""
+        return self.types.constant(of, tag) if self.types.told_of(of) else str(tag + self.first(of))
+
     def make_tagged(self, of: Type, at: str) -> str:
         cases, tags = "", self.types.tag(of).text()
         for tag, (_, _, part) in enumerate(self.types.variants(of)):
             parts = "".join(
                 self.made_at(one, f"{at}.{self.types.part_name(of, tag, order)}") for order, one in enumerate(part) if not self.types.is_unit(one)
             )
-            cases += f"case {tag}:\n{parts}break;\n"
-        count = len(self.types.variants(of))
-        picked = f"uint64_t tag = beside_pick({count});\n{at}.kind = ({tags})(tag + {self.first(of)});\n"
-        return f"{picked}switch (tag) {{\n{cases}default: break;\n}}\n"
+            cases += f"case {tag}:\n{at}.kind = ({tags}){self.kind_of(of, tag)};\n{parts}break;\n"
+        return f"switch (beside_pick({len(self.types.variants(of))})) {{\n{cases}default: break;\n}}\n"
 
     def make_queue(self, of: Type) -> str:
         (cells, _), (front, _), (count, _) = self.types.fields(of)
@@ -313,6 +347,8 @@ class Beside:
             fails = f"{at}.is_error" if word == "either" else self.is_error(error, f"{at}.error")
             good, bad = self.shown_at(value, f"{at}.value"), self.shown_at(error, f"{at}.error")
             return f"beside_show({fails});\nif ({fails}) {{\n{bad}}} else {{\n{good}}}\n"
+        if word == "enum" and self.types.told_of(of):
+            return f"beside_show((uint64_t){at});\n"
         if word == "enum":
             return f"beside_show((uint64_t){at} - {self.first(of)});\n"
         if word == "tagged":
@@ -323,8 +359,9 @@ class Beside:
                     for order, one in enumerate(part)
                     if not self.types.is_unit(one)
                 )
-                cases += f"case {tag + self.first(of)}:\n{parts}break;\n"
-            return f"beside_show((uint64_t){at}.kind - {self.first(of)});\nswitch ((unsigned){at}.kind) {{\n{cases}default: break;\n}}\n"
+                cases += f"case {self.kind_of(of, tag)}:\n{parts}break;\n"
+            less = "" if self.types.told_of(of) else f" - {self.first(of)}"
+            return f"beside_show((uint64_t){at}.kind{less});\nswitch ((unsigned){at}.kind) {{\n{cases}default: break;\n}}\n"
         if word == "array":
             return f"for (size_t i = 0; i < {of[2]}; i++)\n {self.shown_at(of[1], f'{at}.bytes[i]')}"
         if word == "pointer":
@@ -405,12 +442,19 @@ class Beside:
         if len(passed) < len(wanted):
             raise Unknown("an argument that the C cannot have")
         instance = self.translation.instance(name, of_mir(types), tuple(map(dictionary_of_mir, dictionaries)))
-        call, result = f"{written.name}({', '.join(passed)})", locals_[0]
+        outs = [f"result_{one.name}" for one in written.form.outs] if written.form else []
+        call, result = f"{written.name}({', '.join([*passed, *(f'&{one}' for one in outs)])})", locals_[0]
         number = len(self.calls)
         if self.types.is_unit(result):
             call, shown = f"{call};\n", ""
         elif self.types.kind(result).kind == "slice":
             raise Unknown("a slice that is returned")
+        elif written.form:
+            made = "".join(f"{one.of.text()} {name};\nmemset(&{name}, 0, sizeof {name});\n" for one, name in zip(written.form.outs, outs))
+            call = f"{made}{written.form.status.text()} status = {call};\n"
+            shown = self.show_form(result, written.form)
+        elif self.types.kind(result).kind == "status":
+            call, shown = f"int status = {call};\n", self.show_error(self.types.kind(result).error, None)
         elif result[0] == "Ref":
             call, shown = f"{self.types.c(result).text()} result = {call};\n", self.shown_at(result[1], "(*result)")
         else:
@@ -430,6 +474,44 @@ class Beside:
             f"|choices| unsafe {{ {made} let result = crate::mir::{instance}({given}); let mut out = Vec::new(); "
             f"{of_result} {behind} out }});"
         )
+
+    # Results, of which a function returns a part and writes others.
+
+    def show_form(self, of: Type, form: Form) -> str:
+        """The statements that show what a function has returned, as `status`, and written."""
+        kind = self.types.kind(of)
+        value = next((one for one in form.outs if one.path == ("value",)), None)
+        shown = self.shown_at(kind.value, f"result_{value.name}") if value else ""
+        if form.status is c.BOOL:
+            return f"beside_show(status ? {kind.full} : {1 - kind.full});\nif (status) {{\n{shown}}}\n"
+        error = kind.value if kind.kind == "option" else kind.error
+        return f"{self.show_error(error, form)}if (status == {self.types.ok}) {{\n{shown}}}\n"
+
+    def show_error(self, of: Type, form: Form | None) -> str:
+        """The statements that show whether there is an error, and which one."""
+        places = {one.path[-1:] if one.path else (): f"result_{one.name}" for one in form.outs if one.path != ("value",)} if form else {}
+        told = self.types.told_of(of)
+        if told and told.details:
+            shown = f"beside_show((uint64_t)status);\nswitch (status) {{\n{self.details(of, [*places.values()][0])}default: break;\n}}\n"
+        elif told and not told.is_kept:
+            shown = "beside_show((uint64_t)status);\n"
+        elif form and (form.sign or form.outs[-1].path[:1] == ("error",) and len(form.outs[-1].path) > 1):
+            (_, given), (_, second) = self.types.fields(of)
+            shown = self.shown_at(given, [*places.values()][0]) + ("" if self.types.is_unit(second) else "beside_show((uint64_t)status);\n")
+        else:
+            shown = "" if self.types.is_silent(of) else self.shown_at(of, [*places.values()][0])
+        return f"beside_show(status != {self.types.ok});\nif (status != {self.types.ok}) {{\n{shown}}}\n"
+
+    def details(self, of: Type, at: str) -> str:
+        """The cases that show the parts of an error."""
+        out = ""
+        for tag, (_, _, part) in enumerate(self.types.variants(of)):
+            named = [(self.types.part_name(of, tag, order), one) for order, one in enumerate(part) if self.types.is_part(of, tag, one)]
+            is_struct = not self.types.c(of).text().startswith("size_t")
+            places = [(f"{at}.{name}" if is_struct else at, one) for name, one in named]
+            shown = "".join(self.shown_at(one, place) if one[0] == "Array" else f"beside_show((uint64_t){place});\n" for place, one in places)
+            out += f"case {self.types.constant(of, tag)}:\n{shown}break;\n" if places else ""
+        return out
 
     # The program.
 

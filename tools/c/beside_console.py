@@ -24,7 +24,7 @@ DRIVER, TERMINAL = (("Named", name, (DEVICE,)) for name in (console.OF_DRIVER.re
 
 
 class BesideConsole(Beside):
-    by_hand, before, called_by_it = "/* ---- the functions of the header, by hand", BEFORE, ""
+    by_hand, before, called_by_it, header = "/* ---- the functions of the header, by hand", BEFORE, "", "u16550_console.h"
 
     def __init__(self, library: Library, source: str) -> None:
         self.source = source
@@ -68,10 +68,8 @@ class BesideConsole(Beside):
 
     # What the MIR has in its place.
 
-    def otherwise(self, found: list[int]) -> dict[str, tuple[str, str]]:
-        no_error = 'panic!("an error that is an argument")'
-        bare = {name: ("out.push(self.v0.f0 as u64);", no_error) for name in console.BARE}
-        return bare | {of[1]: self.struct(of, found) for of in (DRIVER, CONFIG)}
+    def otherwise(self, found: list[int]) -> dict[str, tuple[str, str | None]]:
+        return super().otherwise(found) | {of[1]: self.struct(of, found) for of in (DRIVER, CONFIG)}
 
     def struct(self, of: Type, found: Sequence[int]) -> tuple[str, str]:
         """How a struct is shown, and how it is made, whose members are choices if a console has them, and have their own value otherwise."""

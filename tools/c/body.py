@@ -6,6 +6,7 @@ import re
 from collections.abc import Callable, Sequence
 from typing import TYPE_CHECKING, Generic, TypeAlias, TypeVar
 
+import results
 import syntax as c
 from names import snake
 from representation import FEW, Kind, safe
@@ -511,10 +512,15 @@ class Body:
             return self.library.made(of, tag, flag + [("error" if tag else "value", parts[0])])
         if of[0] == "Named" and of[1] == "core::ops::ControlFlow":
             raise Unknown("a ControlFlow that is made")
-        constant = c.Word(self.types.constant(of, tag), self.types.c(of))
+        constant = self.library.number_of(of, tag, parts)
         if word == "enum":
             return constant
-        filled = [(self.types.part_name(of, tag, order), self.in_struct(one)) for order, one in enumerate(values) if one is not None]
+        _, _, types = self.types.variants(of)[tag]
+        filled = [
+            (self.types.part_name(of, tag, order), self.in_struct(one))
+            for order, (one, inner) in enumerate(zip(values, types))
+            if one is not None and self.types.is_part(of, tag, inner)
+        ]
         return self.library.made(of, tag, [("kind", constant), *filled])
 
     # Statements.
@@ -662,6 +668,8 @@ class Body:
         if name == FILLED:
             given = [expression(argument) for argument in arguments]
             self.join(given[2], c.Literal(0, c.Number(64, c.SIZE)), "=")
+            if form := results.form_of(self.types, of, "uart_cells_in_memory", True):
+                self.library.forms["uart_cells_in_memory"] = form
             return c.CallOf("uart_cells_in_memory", given, self.types.c(of))
         if name == SAME_ARRAYS:
             count = c.Literal(one.function[1][1][1], c.Number(64, c.SIZE))
@@ -701,11 +709,13 @@ class Body:
         number = expression(on)
         if number.of is c.BOOL:
             return [self.two_ways(number, one.cases, 1, labels)]
-        return [self.choice(number, self.cases_of(one.cases, lambda value: c.Literal(value, number.of), labels))]
+        return [self.choice(number, self.cases_of(one.cases, lambda value: [c.Literal(value, number.of)], labels))]
 
-    def cases_of(self, cases: list[Case], label: Callable[[int], c.Expression], labels: list[int]) -> list[c.Case]:
+    def cases_of(self, cases: list[Case], label: Callable[[int], list[c.Expression]], labels: list[int]) -> list[c.Case]:
         """The cases in C, whose numbers are written in this way."""
-        return [(None if numbers is None else [*map(label, numbers)], self.list_of(body, labels)) for numbers, body in cases]
+        return [
+            (None if numbers is None else [one for each in numbers for one in label(each)], self.list_of(body, labels)) for numbers, body in cases
+        ]
 
     def two_ways(self, condition: c.Expression, cases: list[Case], yes_tag: int, labels: list[int]) -> c.If:
         other = next((body for numbers, body in cases if numbers is None), list[Statement]())
@@ -726,7 +736,9 @@ class Body:
             shown = one if kind.kind == "status" else c.Field(one, "error", self.types.c(kind.error))
             return [self.two_ways(self.library.is_error(shown, kind.error), cases, 1, labels)]
         number = one if kind.kind == "enum" else c.Field(one, "kind", self.types.tag(of))
-        return [self.choice(number, self.cases_of(cases, lambda value: c.Word(self.types.constant(of, value), number.of), labels))]
+        # A variant with an error in it has the numbers of that one.
+        cases_of = self.cases_of(cases, lambda value: [c.Word(name, number.of) for name in self.types.numbers(of, value)], labels)
+        return [self.choice(number, cases_of)]
 
     @staticmethod
     def choice(on: c.Expression, cases: list[c.Case]) -> c.Statement:

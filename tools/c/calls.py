@@ -1,6 +1,6 @@
 """The interface of the driver for C, as one table: the numbers that functions return and their texts, the data, which values are refused,
 and the functions. `emit` makes the header and the layer of it, and a list of all calls for tests."""
-from table import SAME, ByHand, Call, Codes, Enum, Field, Group, Member, Number, Numbers, Section, Struct, Value
+from table import SAME, ByHand, Call, Codes, Enum, Field, Group, Member, Number, Numbers, Section, Shared, Struct, Value
 
 # What holds of each function, at the top of the headers.
 RULES = """
@@ -99,10 +99,11 @@ NUMBERS: list[Numbers] = [
         Number("RECEIVE_NO_DATA", 60, "no byte was received"),
     ]),
     Numbers("stalled_error", "", [
-        Number("STALLED", 70, "a wait came to the spin limit", note=SAME, of=("SendError.Stalled",)),
+        Number("STALLED", 70, "a wait came to the spin limit", note=SAME, of=("StalledError", "SendError.Stalled")),
     ]),
     Numbers("baud_rate_error", "", [
-        Number("NON_INTEGER_BAUD_RATE", 80, "the divisor gives no whole baud rate", note="the divisor is 0, or gives no whole baud rate"),
+        Number("NON_INTEGER_BAUD_RATE", 80, "the divisor gives no whole baud rate", note="the divisor is 0, or gives no whole baud rate",
+            of=("NonIntegerBaudRateError",)),
     ]),
     Numbers("ring_error", "Why there are no rings.", [
         Number("RING_BAD_CAPACITY", 90, "a ring has room for 1 to 4096 bytes", note="a capacity is 0 or more than U16550_MAX_CAPACITY",
@@ -117,7 +118,7 @@ NUMBERS: list[Numbers] = [
             note="ISR shows an interrupt that was served and does not go away", of=("StuckError.Pending",)),
     ]),
     Numbers("unnoted_error", "", [
-        Number("RING_UNNOTED", 94, "bytes of the receive ring have no note of their errors", note=SAME),
+        Number("RING_UNNOTED", 94, "bytes of the receive ring have no note of their errors", note=SAME, of=("UnnotedError",)),
     ]),
     Numbers("frame_error", "Why no frame was set.", [
         Number("FRAME_NON_INTEGER_DIVISOR", 100, "frame: no whole divisor gives the baud rate",
@@ -161,7 +162,7 @@ NUMBERS: list[Numbers] = [
             note="ISR shows otherwise than u16550_fifo_enabled whether they are on", of=("ConfigurationError.Fifos",)),
     ]),
     Numbers("bus_error", "Why a call at a bus was not done.", [
-        Number("BUS_BUSY", 160, "the transmitter is not empty", note="the transmitter is not empty; nothing was written"),
+        Number("BUS_BUSY", 160, "the transmitter is not empty", note="the transmitter is not empty; nothing was written", of=("BusyError",)),
         Number("BUS_NOT_SENDING", 161, "the direction is not to send", note="the direction is not to send; no access was made",
             of=("SendError.NotSending",)),
     ]),
@@ -330,20 +331,43 @@ BITS: list[Enum] = [
     ]),
 ]
 
-# What numbers of data stand for.
+# The errors that are kept with their parts; and those whose parts a function writes through a pointer: to what, its name, and which member each part
+# is there.
+KEPT, SILENT = ("StuckError",), ("NonIntegerBaudRateError",)
+DETAILS = {
+    "ConfigurationError": ("struct u16550_difference", "difference", {
+        (variant, field): field
+        for variant in ("LineControl", "ModemControl", "Interrupts", "Divisor", "Fifos")
+        for field in ("expected", "shown")
+    }),
+    "LoopbackError": ("struct uart_loopback_failure", "failure", {
+        ("UnexpectedLoopbackByte", "expected"): "expected",
+        ("UnexpectedLoopbackByte", "actual"): "actual",
+        ("UnexpectedLoopbackMsg", "expected"): "expected_msg",
+        ("UnexpectedLoopbackMsg", "actual"): "actual_msg",
+    }),
+    "SendError": ("size_t", "done", {("Stalled", "value"): "done"}),
+}
+
+# What numbers of data stand for: the variants of the proved code have other numbers.
 CODES = [
     Codes("FifoTriggerLevel", "uint8_t", {"One": 1, "Four": 4, "Eight": 8, "Fourteen": 14}),
     Codes("WordLength", "uint8_t", {"FiveBits": 5, "SixBits": 6, "SevenBits": 7, "EightBits": 8}),
-    Codes("Parity", "uint8_t", {"Disabled": "PARITY_NONE", "Odd": "PARITY_ODD", "Even": "PARITY_EVEN", "Forced1": "PARITY_FORCED_1",
-                                "Forced0": "PARITY_FORCED_0"}),
-    Codes("TransmitterWait", "uint8_t", {"First": "WAIT_FIRST", "Last": "WAIT_LAST", "Never": "WAIT_NEVER"}, got=False),
-    Codes("FifoAction", "uint8_t", {"Keep": "FIFOS_KEEP", "Reset": "FIFOS_RESET", "Disable": "FIFOS_DISABLE"}, got=False),
     Codes("FifoSize", "uint16_t", {"Sixteen": 16, "ThirtyTwo": 32, "SixtyFour": 64, "OneHundredTwentyEight": 128,
                                    "TwoHundredFiftySix": 256}),
-    Codes("DirectionLine", "uint8_t", {"Rts": "DIRECTION_RTS", "Dtr": "DIRECTION_DTR"}, got=False),
-    Codes("DesignWareFault", "int", {"LineControlIgnored": "DESIGN_WARE_LINE_CONTROL", "InterruptWithoutEnd": "DESIGN_WARE_INTERRUPT"},
-          given=False),
-    Codes("HandleEnd", "uint8_t", {"Idle": "HANDLE_IDLE", "Unknown": "HANDLE_UNKNOWN", "Limit": "HANDLE_LIMIT"}, given=False),
+]
+
+# The enums of the header that the proved code has too: its type, the enum, and the number of each variant. A number that a program gives is
+# looked at if it is refused by U16550_BAD_CODE.
+SHARED = [
+    Shared("Parity", "parity", {"Disabled": "PARITY_NONE", "Odd": "PARITY_ODD", "Even": "PARITY_EVEN", "Forced1": "PARITY_FORCED_1",
+                                "Forced0": "PARITY_FORCED_0"}, is_given=True),
+    Shared("TransmitterWait", "transmitter_wait", {"First": "WAIT_FIRST", "Last": "WAIT_LAST", "Never": "WAIT_NEVER"}, is_given=True),
+    Shared("FifoAction", "fifo_action", {"Keep": "FIFOS_KEEP", "Reset": "FIFOS_RESET", "Disable": "FIFOS_DISABLE"}, is_given=True),
+    Shared("DirectionLine", "direction_line", {"Rts": "DIRECTION_RTS", "Dtr": "DIRECTION_DTR"}, is_given=True),
+    Shared("DesignWareFault", "design_ware_fault", {"LineControlIgnored": "DESIGN_WARE_LINE_CONTROL",
+                                                    "InterruptWithoutEnd": "DESIGN_WARE_INTERRUPT"}),
+    Shared("HandleEnd", "handle_end", {"Idle": "HANDLE_IDLE", "Unknown": "HANDLE_UNKNOWN", "Limit": "HANDLE_LIMIT"}),
 ]
 
 # Which values of parameters are refused, and what the proved function gets. They are tested in this order, once the driver is there and
@@ -354,7 +378,7 @@ VALUES = [
     Value("const struct u16550_dump *dump", "uart_if(dump == NULL, U16550_NULL_POINTER)", "dump"),
     Value("uint8_t on", "uart_check_flag(on)", "on == 1"),
     Value("uint8_t characters", "uart_decode_fifo_trigger_level(characters, &level)", "level", "uint8_t level"),
-    Value("uint8_t fifos", "uart_decode_fifo_action(fifos, &action)", "action", "enum uart_fifo_action action"),
+    Value("uint8_t fifos", "uart_check_fifo_action(fifos)", "fifos"),
     Value("uint16_t fifo_size", "uart_decode_fifo_size(fifo_size, &size)", "size", "uint8_t size"),
     Value("uint64_t limit", "uart_if(limit == 0, U16550_ZERO_LIMIT)", "limit"),
     Value("const uint8_t *urgent", "uart_decode_urgent(urgent, &urgent_byte)", "urgent_byte", "struct u16550_core_maybe_u8 urgent_byte"),
@@ -367,10 +391,9 @@ VALUES = [
     Value("struct u16550_received *received, size_t len", "uart_array(received, len, sizeof(struct u16550_received), 1)", "received, len"),
 ]
 
-# What calls of a configuration return: one that needs a divisor, one that perhaps has nothing to return even so, and one that needs none.
-BY_DIVISOR = {"error": "InvalidDivisorError", "outcome": "struct uart_u64_or_invalid_divisor_error"}
-PERHAPS = {"error": "InvalidDivisorError", "outcome": "struct uart_maybe_u64_or_invalid_divisor_error"}
-CONVERTED = {"none": "TIME_OUT_OF_RANGE", "outcome": "struct uart_maybe_u64"}
+# What calls of a configuration return: one that needs a divisor, and one that needs none.
+BY_DIVISOR = {"error": "InvalidDivisorError"}
+CONVERTED = {"none": "TIME_OUT_OF_RANGE"}
 
 # The functions. A `Call` is one call of the proved code, `uart_NAME` of driver or rings, or of a configuration if it takes that first; its
 # guards come of what it takes.
@@ -482,7 +505,7 @@ nanoseconds. At a line that several ports share, those before this one are serve
 this is 0. With 0 for both it is the time until the first read of DATA. Returns U16550_TIME_NOTHING_LEFT if nothing is left, also if the
 two accesses of a byte take longer than a character.""", [
             Call("handler_budget", "const struct u16550_config *config, uint16_t fifo_size, uint64_t access_clocks, uint64_t before_clocks, "
-                 "uint64_t *clocks", gives="clocks", none="TIME_NOTHING_LEFT", **PERHAPS),
+                 "uint64_t *clocks", gives="clocks", none="TIME_NOTHING_LEFT", **BY_DIVISOR),
         ]),
         Group("""
 How many characters arrive within so many clocks at most: what a mark of flow control has to leave room for, if these pass until the other
@@ -504,7 +527,7 @@ The limit for u16550_set_spin_limit with which no wait for a working transmitter
 the other end does not hold the chip off. u16550_clocks_within has these of nanoseconds. Returns U16550_TIME_NO_LIMIT if a look takes
 none.""", [
             Call("spin_limit_for", "const struct u16550_config *config, uint16_t fifo_size, uint64_t access_clocks, uint64_t *limit",
-                 gives="limit", none="TIME_NO_LIMIT", **PERHAPS),
+                 gives="limit", none="TIME_NO_LIMIT", **BY_DIVISOR),
         ]),
         Group("""
 Clocks as nanoseconds, and back. Those with 'within' round down: for a time that may be used up, and for the least that a look takes. Those
@@ -541,8 +564,7 @@ Finds how many characters the FIFOs hold as they are set up now, for u16550_set_
 128 or 256. Sends 257 bytes in loopback without looking, and counts those that come back. Nothing goes out on the line. Bytes
 that were received before and not taken are lost, and so is what arrives meanwhile. It takes as long as the characters need on
 the line. Returns an enum u16550_fifos_error if no size was found.""", [
-            Call("find_fifo_size", "struct u16550 *uart, uint16_t *fifo_size", gives="fifo_size", error="FifoSizeError", encode="fifo_size",
-                 outcome="struct uart_fifo_size_or_fifo_size_error"),
+            Call("find_fifo_size", "struct u16550 *uart, uint16_t *fifo_size", gives="fifo_size", error="FifoSizeError", encode="fifo_size"),
         ]),
         Group("""
 Turns on the FIFOs of 64 characters of a 16750, once its transmitter is empty. *enabled is 1 if they hold 64 then: a
@@ -550,8 +572,7 @@ u16550_set_fifo_size with 64, which it does not call, is right. A 16750 empties 
 not taken are lost. Another chip loses nothing, and *enabled is 0. Call it again after a u16550_init that follows a reset of the
 chip. Interrupts are off meanwhile, and DLAB is set for a moment, so nothing else may access the chip. Returns an enum
 u16550_fifos_error if the FIFOs are off, or if the transmitter did not become empty.""", [
-            Call("enable_64_byte_fifos", "struct u16550 *uart, uint8_t *enabled", gives="enabled", error="FifoSizeError",
-                 outcome="struct uart_bool_or_fifo_size_error"),
+            Call("enable_64_byte_fifos", "struct u16550 *uart, uint8_t *enabled", gives="enabled", error="FifoSizeError"),
         ]),
         Group("""
 Whether the chip shows what was written to it: the frame, these outputs, which after u16550_init are 0x0b, the interrupts, the
@@ -595,7 +616,7 @@ not 0. It reads LCR, MCR, the divisor latch, for which it sets DLAB and then wri
 written. The read of ISR acknowledges a THR_EMPTY interrupt. The driver's configuration stays as it was, since nobody knows
 the chip's clock. Returns an enum u16550_attach_error if the port is not one to be taken. ISR was not read then, and the
 driver is as it was.""", [
-            Call("attach", "struct u16550 *uart, uint8_t *dll, uint8_t *dlm", pair="struct uart_pair_of_u8_or_attach_error",
+            Call("attach", "struct u16550 *uart, uint8_t *dll, uint8_t *dlm", pair="struct uart_latch",
                  error="AttachError"),
         ]),
         Group("""
@@ -629,8 +650,7 @@ device is, and U16550_ATTACH_LOOPBACK if the chip stays in loopback. Refused by 
         Group("These two and the next two do not wait. They return U16550_RECEIVE_NO_DATA or an enum u16550_send_error.", [
             Call("ready_to_receive", "struct u16550 *uart", false="RECEIVE_NO_DATA"),
             Call("ready_to_send", "struct u16550 *uart", error="ByteSendError"),
-            Call("try_receive_byte", "struct u16550 *uart, uint8_t *byte", gives="byte", none="RECEIVE_NO_DATA",
-                 outcome="struct u16550_core_maybe_u8"),
+            Call("try_receive_byte", "struct u16550 *uart, uint8_t *byte", gives="byte", none="RECEIVE_NO_DATA"),
             Call("try_send_byte", "struct u16550 *uart, uint8_t byte", error="ByteSendError"),
         ]),
         Group("""
@@ -655,7 +675,7 @@ the urgent one is the first of them.""", [
 The same as u16550_try_receive_byte and u16550_receive_bytes, with the line errors of each byte. A chip shows these once: if
 an earlier call has looked at the first byte, its errors are missing here. The next u16550_lsr has all of them.""", [
             Call("try_receive_with_errors", "struct u16550 *uart, struct u16550_received *received", gives="received",
-                 none="RECEIVE_NO_DATA", outcome="struct uart_maybe_received"),
+                 none="RECEIVE_NO_DATA"),
             Call("receive_with_errors", "struct u16550 *uart, struct u16550_received *received, size_t len, size_t *count", gives="count"),
         ]),
         Group("""
@@ -675,25 +695,23 @@ keep_waiting must not be null, and a call over this driver from it returns U1655
         ]),
         Group("""
 The same wait as u16550_flush, and no longer than keep_waiting wants.""", [
-            Call("flush_while", "struct u16550 *uart, uint8_t (*keep_waiting)(void *context), void *context",
-                 does="status = uart_if(uart_flush_while(DRIVER, &patience).is_error, U16550_STALLED)"),
+            Call("flush_while", "struct u16550 *uart, uint8_t (*keep_waiting)(void *context), void *context"),
         ]),
         Group("""
-As the traits of embedded-io: some bytes, and a wait for the first. They return U16550_STALLED as the last two.""", [
-            Call("read", "struct u16550 *uart, uint8_t *buffer, size_t len, size_t *count", gives="count",
-                 stalled="struct uart_u64_or_stalled_error"),
-            Call("write", "struct u16550 *uart, const uint8_t *buffer, size_t len, size_t *count", gives="count",
-                 stalled="struct uart_u64_or_stalled_error"),
-            Call("flush", "struct u16550 *uart", does="status = uart_if(uart_flush(DRIVER).is_error, U16550_STALLED)"),
-            Call("read_ready", "struct u16550 *uart, uint8_t *ready", gives="ready", stalled="struct uart_bool_or_stalled_error"),
-            Call("write_ready", "struct u16550 *uart, uint8_t *ready", gives="ready", stalled="struct uart_bool_or_stalled_error"),
+Some bytes, and a wait for the first. They return U16550_STALLED as the last two.""", [
+            Call("read", "struct u16550 *uart, uint8_t *buffer, size_t len, size_t *count", gives="count"),
+            Call("write", "struct u16550 *uart, const uint8_t *buffer, size_t len, size_t *count", gives="count"),
+            Call("flush", "struct u16550 *uart"),
+            Call("read_ready", "struct u16550 *uart, uint8_t *ready", gives="ready"),
+            Call("write_ready", "struct u16550 *uart, uint8_t *ready", gives="ready"),
         ]),
         Group("Whether the transmitter has sent everything: the FIFO and the byte on the line. Does not wait.", [
             Call("is_idle", "struct u16550 *uart, uint8_t *idle", gives="idle"),
         ]),
         Group("""
 Whether the chip is gone, as one that was unplugged: whether MCR shows 0xff, as most buses do where nobody answers. Then all that is
-received is 0xff, and all sends succeed. Reads MCR once, which changes nothing.""", [
+received is 0xff, and all sends succeed. Reads MCR once, which changes nothing. A bus of 0x7f or 0 is not told from a chip:
+u16550_check_present, which writes SPR, tells it.""", [
             Call("is_gone", "struct u16550 *uart, uint8_t *gone", gives="gone"),
         ]),
         Group("""
@@ -715,7 +733,7 @@ sent. done may be null.""", [
             Call("lsr", "struct u16550 *uart, uint8_t *value", gives="value"),
             Call("msr", "struct u16550 *uart, uint8_t *value", gives="value"),
             Call("spr", "struct u16550 *uart, uint8_t *value", gives="value"),
-            Call("dll_dlm", "struct u16550 *uart, uint8_t *dll, uint8_t *dlm", pair="struct uart_pair_of_u8"),
+            Call("dll_dlm", "struct u16550 *uart, uint8_t *dll, uint8_t *dlm", pair="struct uart_latch"),
         ]),
         Group("MSR as it is now. The changes in it stay saved for the next u16550_msr.", [
             Call("peek_modem", "struct u16550 *uart, uint8_t *msr", gives="msr"),
@@ -905,7 +923,7 @@ rise again, as u16550_ring_retrigger does. *handled says how many it served, and
 Call it once in an interrupt handler, whether the controller detects levels or edges: the line was low at some time during
 the call, so what is pending afterwards makes a new edge. It does not wait, and ends on a chip that shows an interrupt for
 ever. But then the controller calls the handler for ever, unless somebody counts: u16550_ring_try_handle does.""", [
-            Call("ring_handle", "struct u16550 *uart, size_t limit, struct u16550_handled *handled", gives="handled", encode="handled"),
+            Call("ring_handle", "struct u16550 *uart, size_t limit, struct u16550_handled *handled", gives="handled"),
         ]),
         Group("""
 Handles the interrupt as u16550_ring_handle does, and ends a storm. If so many rounds in a row have ended with another end
@@ -915,7 +933,7 @@ further call writes 0 to IER again and returns the same, and the rings hand no b
 that a chip that works is not found stuck: see rust/uart_16550/INTERRUPTS.md. 100 rounds are 3,200 interrupts without a pause, if
 the limit is 32.""", [
             Call("ring_try_handle", "struct u16550 *uart, size_t limit, uint32_t rounds, struct u16550_handled *handled", gives="handled",
-                 encode="handled", error="StuckError", outcome="struct uart_handled_or_stuck_error"),
+                 error="StuckError"),
         ]),
         Group("Whether the chip is stuck, and what ISR showed.", [
             ByHand("ring_stuck", "struct u16550 *uart, struct u16550_stuck *stuck"),

@@ -5,14 +5,17 @@ import pathlib
 import re
 import sys
 
+import calls
 import names
 import syntax as c
+from comments import Said
 from driver import ROOT, text_of
 from header import LICENCE
 from kit import program_of
 from library import Fixed, Known, Library, Unknown
 from port import named_in
-from representation import OPTION
+from representation import INT, OPTION, Told
+from translate import Program
 from tree import DEVICE, Key
 
 OWN = ("uart_spec", "uart_16550")
@@ -54,8 +57,76 @@ TOP = f"""{LICENCE}/*
  */
 #include "u16550_console.h"
 """
-# The errors of which the layer tells only which one it is.
-BARE = ("uart_spec::errors::InitError", "uart_spec::errors::LoopbackError")
+# The numbers of errors. What a console never meets, as a remote that is not clear to send, has that of another one.
+NUMBERS: dict[str, dict[str, str | dict[str, str]]] = {
+    "InitError": {"DeviceNotPresent": "DEVICE_NOT_PRESENT", "Stalled": "INIT_STALLED"},
+    "AttachError": {"DivisorLatchOpen": "DIVISOR_LATCH_OPEN", "Loopback": "LOOPBACK", "NoDivisor": "NO_DIVISOR"},
+    "ByteSendError": {"NoCapacity": "NO_CAPACITY", "RemoteNotClearToSend": "NO_CAPACITY"},
+    "LoopbackError": {
+        "SendError": {"NoCapacity": "LOOPBACK_NO_CAPACITY", "RemoteNotClearToSend": "LOOPBACK_NO_CAPACITY"},
+        "UnexpectedLoopbackByte": "LOOPBACK_UNEXPECTED_BYTE",
+        "UnexpectedLoopbackMsg": "LOOPBACK_UNEXPECTED_MSG",
+        "Stalled": "LOOPBACK_STALLED",
+    },
+}
+# What comments of the source say of a driver that may be configured in more ways.
+SAID = (
+    (" No wait of `init` prevents that: call `flush` before, if it matters.", ""),
+    (", and enables the configured interrupts", ", and enables no interrupt"),
+    ("the statuses are read without being saved, and the interrupts enabled", "the statuses are read without being saved, and 0 is written to IER"),
+    (
+        " with this configuration, whose divisor this is. This is a function of its own for callers that have tested the configuration already,"
+        " and so have its divisor.",
+        " with this divisor.",
+    ),
+    ("the configuration is stored, the scratch register tested, divisor,", "the scratch register is tested, divisor,"),
+    (" Or nothing is done, if there is no divisor; or all up to the test", " Or all is done up to the test"),
+    (" `config` is not changed, since the clock of the chip is not known: it does not say what the chip has.", ""),
+    (
+        ", and saves the changes of the lines that are not due to the test",
+        ", and reads MSR, so that no change of the lines which is due to the test stays",
+    ),
+    ("changes of the lines are saved, and the saved errors", "MSR is read, and the saved errors"),
+    (" and, if the configuration checks CTS, the remote is clear to send", ""),
+    (
+        " If the configuration checks CTS and THR is empty, it also reads MCR and, unless that shows loopback, MSR. The errors and changes that"
+        " these reads clear are saved for the next `lsr` and `msr`.",
+        " The errors that this clears are saved for the next `lsr`.",
+    ),
+    (" and, if CTS is checked, the modem lines allow sending; or the error names which of these is not so", ", or does not"),
+    ("\n- `RemoteNotClearToSend` if it is empty, but the remote does not assert CTS.", ""),
+    (": also if the remote is not clear to send", ""),
+    (", or CTS is checked and the remote is not clear to send", ""),
+    (", and drops what a constant configuration does not ask for", ""),
+    (" (`fifo_size`)", ""),
+    ("a FIFO of the size that is set holds", "the FIFO holds"),
+    ("; `flush` of [`embedded_io`](crate::embedded_io) waits until all of it has left the chip", ""),
+    (
+        "The modem lines before and after the test are compared, and their changes saved for the next `msr`; of RI only its trailing edge. A line"
+        " that changed and changed back in between is not reported.\n\n",
+        "",
+    ),
+    (": `is_gone` tells", ""),
+    (" Its cause is always `NoCapacity`.", ""),
+    (" With 5 or 6 data bits a chip that cuts characters fails the test.", ""),
+)
+# The value of LCR that a console has for ever, which is that of a field of it.
+FRAME, ITS_NAME = "U16550_LCR_WORD_LENGTH", "U16550_LCR_8N1"
+# What these are called that a comment names.
+NAMED = {
+    "init": "u16550_console_init",
+    "attach": "u16550_console_attach",
+    "test_loopback": "u16550_console_test_loopback",
+    "lsr": "u16550_console_lsr",
+    "write_text": "u16550_console_write_text",
+    "Uart16550Tty::write_text": "u16550_console_write_text",
+    "check_present": "uart_check_present",
+    "dll_dlm": "uart_dll_dlm",
+    "ready_to_send": "uart_ready_to_send",
+    "send_bytes": "uart_send_bytes",
+    "spin_limit": "U16550_CONSOLE_POLLS",
+}
+OK, STALLED = "U16550_CONSOLE_OK", "U16550_CONSOLE_STALLED"
 # The structs that are made where they are returned, and not copied.
 LARGE = ("uart_bytes16",)
 # The members of the driver that a console has not.
@@ -90,11 +161,13 @@ def members(library: Library) -> dict[tuple[str, str], Fixed | None]:
 
 def made(folder: pathlib.Path | None) -> tuple[dict[str, str], Library]:
     """The texts of the header and of the source, and the library that was translated."""
-    known = dict[Key, Known]()
-    library = translated(folder, known)
+    program, source, known = program_of(OWN, folder, "./prove uart_16550"), names.Source(ROOT, OWN), dict[Key, Known]()
+    library = translated(program, source, known)
     while more := library.constants():
         known = {key: known.get(key, {}) | more.get(key, {}) for key in known.keys() | more.keys()}
-        library = translated(folder, known)
+        library = translated(program, source, known)
+    if unused := library.said.unused():
+        sys.exit(f"emit: console.py: no comment says {unused[0]!r}")
     text = driver_as_terminal(in_place_of_device(library.text()))
     layer = text_of("layer_console.c")
     text = called_by(text, layer)
@@ -105,11 +178,17 @@ def made(folder: pathlib.Path | None) -> tuple[dict[str, str], Library]:
     if found := re.search(rf"\b(uart_config|uart_chip)\b|(->|\.)({'|'.join(GONE)})\b", re.sub(r"/\*[\s\S]*?\*/", "", text) + layer):
         sys.exit(f"emit: {found[0]} is left out, and is read")
     offsets = [f"    UART_{name} = {value}" for name, value in sorted(library.offsets.items(), key=lambda one: (one[1], one[0]))]
-    bits = [f"    {name} = {value:#04x}" for name, value in sorted((library.bits | BITS).items())]
-    numbers = "\n/* Where the registers are, and their bits. */\nenum {\n" + ",\n".join(offsets + bits) + "\n};\n"
+    bits = [f"    {name} = {value:#04x}" for name, value in sorted((library.bits | BITS).items()) if re.search(rf"\b{name}\b", text + layer)]
+    own_numbers = [f"    {name} = {value}" for name, value in sorted(library.numbers.items()) if re.search(rf"\b{name}\b", text)]
+    numbers = (
+        "\n/* Where the registers are, their bits, and numbers of the driver. */\nenum {\n" + ",\n".join(offsets + bits + own_numbers) + "\n};\n"
+    )
     device = text_of("layer_console_top.c").replace("ACCESSES\n", accesses())
-    source = "\n".join([TOP + numbers, device, "\n".join(own), text, layer])
-    files = {"u16550_console.h": LICENCE + text_of("console_h.h").replace("STRUCT\n", shown + "\n"), "u16550_console.c": source}
+    of_source = "\n".join([TOP + numbers, device, "\n".join(own), text, layer])
+    if f"~{FRAME}" in of_source or len(re.findall(rf"\b{FRAME}\b", of_source)) != 2:
+        sys.exit(f"emit: {FRAME} is more than the frame of a console")
+    of_source = of_source.replace(FRAME, ITS_NAME)
+    files = {"u16550_console.h": LICENCE + text_of("console_h.h").replace("STRUCT\n", shown + "\n"), "u16550_console.c": of_source}
     return {name: one.replace(DRIVER, CONSOLE) for name, one in files.items()}, library
 
 
@@ -140,11 +219,18 @@ def called_by(text: str, layer: str) -> str:
     return text
 
 
-def translated(folder: pathlib.Path | None, known: dict[Key, Known]) -> Library:
-    library = Library(program_of(OWN, folder, "./prove uart_16550"), names.Source(ROOT, OWN), {}, OWN, "U16550", known=known)
+def numbered(number: str | dict[str, str]) -> str | dict[str, str]:
+    """The name of a number in the header."""
+    return f"U16550_CONSOLE_{number}" if isinstance(number, str) else {one: f"U16550_CONSOLE_{its}" for one, its in number.items()}
+
+
+def translated(program: Program, source: names.Source, known: dict[Key, Known]) -> Library:
+    library = Library(program, source, {}, OWN, "U16550", known=known)
     library.fixed = members(library)
-    library.types.bare = set(BARE)
-    library.large = set(LARGE)
+    library.types.told = {name: Told(INT, {one: numbered(number) for one, number in numbers.items()}) for name, numbers in NUMBERS.items()}
+    library.types.failures, library.types.ok = {"StalledError": STALLED}, OK
+    library.types.calls = frozenset(one.name for section in calls.SECTIONS for group in section.groups for one in group.calls)
+    library.large, library.said = set(LARGE), Said(NAMED, SAID)
     library.passed_on = {"uart_device_read", "uart_device_write"}
     library.types.put_into_header(("Named", OF_DRIVER.rsplit("::", 2)[0] + "::Uart16550", (DEVICE,)))
     for name in CALLED:

@@ -17,6 +17,7 @@ import parts
 import table
 from kit import program_of
 from library import Library, Unknown
+from port import named_in
 from representation import proved_lines
 from tree import DEVICE
 
@@ -29,6 +30,7 @@ PUBLIC = {
     ("Named", "uart_spec::received::Received", ()): "u16550_received",
     ("Named", "uart_spec::dump::ConfigRegisterDump", ()): "u16550_dump",
     ("Named", "uart_design_ware::kept::KeptCharacter", ()): "u16550_received",
+    ("Named", "uart_ring::ring::service::Handled", ()): "u16550_handled",
 }
 RING = ("Named", "uart_ring::ring::Uart16550Ring", (DEVICE,))
 DESIGN_WARE = ("Named", "uart_design_ware::state::DesignWare", (DEVICE,))
@@ -85,24 +87,27 @@ def made(folder: pathlib.Path | None) -> tuple[dict[str, str], Library]:
     library = Library(
         program_of(OWN, folder, "./prove uart_ring && ./prove uart_design_ware && ./prove uart_rs485"), names.Source(ROOT, OWN), PUBLIC, OWN, "U16550"
     )
+    library.types.told, library.types.failures = interface.told()
+    library.types.silent = set(calls.SILENT)
+    library.types.calls = frozenset(one.name for section in calls.SECTIONS for group in section.groups for one in group.calls)
+    interface.complete(library.types)
     for one in IN_HEADER:
         library.types.put_into_header(one)
     guards, by_hand = ("\n".join(text_of(f"layer_{one}.c") for one in which) for which in (GUARDS, BY_HAND))
-    rows = interface.layer()
-    for name in sorted(wanted(library, by_hand + rows)):
+    for name in sorted(wanted(library, by_hand + interface.rows())):
         try:
             library.want(name)
         except Unknown as cause:
             sys.exit(f"emit: {name}: {cause}")
     for one in IN_HEADER:
         library.types.c(one)
+    codes, rows, functions = interface.codes(library.types), interface.layer(library.forms), library.text()
     in_header = [text for name, text in library.types.declarations if name.startswith("u16550_core")]
-    own = [text for name, text in library.types.declarations if not name.startswith("u16550_core")]
+    texts = [text_of("layer_arithmetic.c"), text_of("layer_top.c"), functions, guards, codes, by_hand, rows, interface.texts()]
+    own = named_in([one for one in library.types.declarations if not one[0].startswith("u16550_core")], "\n".join(texts))
     proved = {one.name.removeprefix("uart_"): proved_lines(one.proved) for one in library.order if one.proved}
     header_text = header.of_c(text_of("header_c.h"), version(), "\n".join(in_header), proved)
-    enums = interface.Enums("\n".join(in_header + own))
-    top = [TOP + constants(library, header_text), "\n".join(own), text_of("layer_arithmetic.c"), text_of("layer_top.c")]
-    source = [*top, library.text(), guards, interface.codes(enums), interface.statuses(enums), by_hand, rows, interface.texts()]
+    source = [TOP + constants(library, header_text), "\n".join(own), *texts]
     of_source, of_header = parts.divided("\n".join(source), header_text)
     return {"u16550.h": of_header, "u16550.c": of_source}, library
 
@@ -115,8 +120,11 @@ def constants(library: Library, header_text: str) -> str:
             sys.exit(f"emit: {name} is {shown[name]:#x} in the header, and {value:#x} in what is proved")
     offsets = [f"    UART_{name} = {value}" for name, value in sorted(library.offsets.items(), key=lambda one: (one[1], one[0]))]
     bits = [f"    {name} = {value:#04x}" for name, value in sorted(library.bits.items()) if name not in shown]
+    numbers = [f"    {name} = {value}" for name, value in sorted(library.numbers.items())]
     return (
-        "/* Where the registers are. */\nenum {\n"
+        "/* Numbers of the driver. */\nenum {\n"
+        + ",\n".join(numbers)
+        + "\n};\n\n/* Where the registers are. */\nenum {\n"
         + ",\n".join(offsets)
         + "\n};\n\n/* Bits that are in no interface. */\nenum {\n"
         + ",\n".join(bits)

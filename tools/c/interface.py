@@ -3,13 +3,15 @@ gives each error its number. All of it is made of the table, calls.py; what is i
 from __future__ import annotations
 
 import re
-from collections.abc import Iterable, Sequence
+from collections.abc import Mapping, Sequence
 from typing import TypeAlias
 
 import calls
 import syntax as c
 from names import snake
-from table import Call, Value, Wrong
+from representation import INT, Representation, Told
+from results import Form
+from table import Call, Enum, Value, Wrong
 
 PLACES = {"DRIVER": "&uart->ring.uart", "RING": "&uart->ring"}
 # How the alignment of what a pointer leads to is called in layer_bottom.c. A byte, and a struct of bytes, may be anywhere.
@@ -22,8 +24,8 @@ ALIGNMENTS = {
 }
 
 
-# The numbers of the variants of an error; of one that has an error in it, those of that.
-Branches: TypeAlias = "dict[str, str | Branches]"
+# What has numbers: the variants of an error; of one that has an error in it, those of that.
+Branches: TypeAlias = "dict[str, str | dict[str, str]]"
 
 
 def number(name: str) -> str:
@@ -33,30 +35,41 @@ def number(name: str) -> str:
 # Numbers of data, and errors as numbers.
 
 
-class Enums:
-    """The enums of the translated code: the names of their members, by what the type is called."""
+def told() -> tuple[dict[str, Told], dict[str, str]]:
+    """The enums of the proved code that a program knows, with their numbers; and the numbers of errors of one kind."""
+    found, failures = dict[str, Branches](), dict[str, str]()
+    for one in (one for group in calls.NUMBERS for one in group.members):
+        for path in one.of:
+            root, *rest = path.split(".")
+            if rest:
+                put(found.setdefault(root, {}), rest, number(one.name))
+            else:
+                failures[root] = number(one.name)
+    errors = {name: Told(INT, branches, name in calls.KEPT, calls.DETAILS.get(name)) for name, branches in found.items()}
+    shared = {row.of: Told(c.Code(f"enum u16550_{row.enum}"), {one: number(name) for one, name in row.numbers.items()}) for row in calls.SHARED}
+    return errors | shared, failures
 
-    def __init__(self, text: str) -> None:
-        self.named = {}
-        for word, name, body in re.findall(r"(?m)^(enum) (\w+) \{\n(.*?)\n\};", text, flags=re.S):
-            members = re.findall(r"(?m)^    (\w+) = ", body)
-            self.named[re.sub(r"^(uart|u16550_core)_", "", name)] = (f"{word} {name}", members)
 
-    def of(self, name: str) -> tuple[str, list[str]]:
-        if name not in self.named:
-            raise Wrong(f"calls.py: the translated code has no enum {name}")
-        return self.named[name]
+def put(branches: Branches, steps: list[str], value: str) -> None:
+    """Puts a number where some steps lead to."""
+    step, *rest = steps
+    if not rest:
+        branches[step] = value
+        return
+    inside = branches.setdefault(step, {})
+    if isinstance(inside, str):
+        raise Wrong(f"calls.py: {step} is an error, and has one in it")
+    inside[rest[0]] = value
 
-    def complete(self, name: str, given: Iterable[str]) -> tuple[str, list[tuple[str, str]]]:
-        """The C name of the enum, and its members by the variants, all of which the table has to have."""
-        kind, members = self.of(name)
-        prefix = kind.split()[1].removesuffix("_kind").upper()
-        wanted = {f"{prefix}_{snake(one).upper()}": one for one in given}
-        missing = [one for one in members if one not in wanted and one != f"{prefix}_NONE"]
-        unknown = [wanted[one] for one in wanted if one not in members]
-        if missing or unknown:
-            raise Wrong(f"calls.py: {name}: no row for {missing}, and no variant {unknown}")
-        return kind, [(one, wanted[one]) for one in members if one in wanted]
+
+def complete(types: Representation) -> None:
+    """Refuses a table in which a variant of the proved code has no number, or a number is that of no variant."""
+    for name, told_of in types.told.items():
+        variants = next((variants for (_, its), variants in types.source.variants.items() if its == name), None)
+        if variants is None or {one for one, _ in variants} != set(told_of.numbers):
+            raise Wrong(
+                f"calls.py: {name} has the numbers of {sorted(told_of.numbers)}, and its variants are {sorted(one for one, _ in variants or ())}"
+            )
 
 
 def switch(on: str, cases: Sequence[tuple[str, list[str]]], otherwise: str | None) -> list[str]:
@@ -71,74 +84,32 @@ def switch(on: str, cases: Sequence[tuple[str, list[str]]], otherwise: str | Non
     return [*lines, "    }"]
 
 
-def codes(enums: Enums) -> str:
-    """The functions that read and write numbers of data."""
+def codes(types: Representation) -> str:
+    """The functions that read and write numbers of data, and those that refuse what is none."""
     out = []
     for row in calls.CODES:
-        name = snake(row.of)
-        kind, members = enums.complete(name, row.numbers)
-        kind = "uint8_t" if kind.startswith("enum u16550_core_") else kind
-        shown = {variant: number(code) if isinstance(code, str) else str(code) for variant, code in row.numbers.items()}
-        if row.given:
-            cases = [(shown[variant], [f"*to = {member};", "return U16550_OK;"]) for member, variant in members]
-            out.append(
-                "\n".join(
-                    [f"static int uart_decode_{name}({row.kind} from, {kind} *to)", "{", *switch("from", cases, "return U16550_BAD_CODE;"), "}", ""]
-                )
+        of = next(of for of in types.kinds if isinstance(of, tuple) and of[0] == "Named" and of[1].endswith(f"::{row.of}"))
+        name, members = snake(row.of), [types.constant(of, tag) for tag, _ in enumerate(types.variants(of))]
+        if {one for one, _, _ in types.variants(of)} != set(row.numbers):
+            raise Wrong(f"calls.py: {row.of} has the numbers of {sorted(row.numbers)}")
+        numbers = [str(row.numbers[one]) for one, _, _ in types.variants(of)]
+        cases = [(one, [f"*to = {member};", "return U16550_OK;"]) for one, member in zip(numbers, members)]
+        out.append(
+            "\n".join(
+                [f"static int uart_decode_{name}({row.kind} from, uint8_t *to)", "{", *switch("from", cases, "return U16550_BAD_CODE;"), "}", ""]
             )
-        if row.got:
-            cases = [(member, [f"return {shown[variant]};"]) for member, variant in members]
-            out.append("\n".join([f"static {row.kind} uart_encode_{name}({kind} from)", "{", *switch("from", cases, None), "}", ""]))
+        )
+        cases = [(member, [f"return {one};"]) for one, member in zip(numbers, members)]
+        out.append("\n".join([f"static {row.kind} uart_encode_{name}(uint8_t from)", "{", *switch("from", cases, None), "}", ""]))
+    for shared in (row for row in calls.SHARED if row.is_given):
+        values = {member.name: member.value for one in calls.TYPES if isinstance(one, Enum) and one.name == shared.enum for member in one.members}
+        if sorted(values.values()) != list(range(len(values))) or set(values) != set(shared.numbers.values()):
+            raise Wrong(f"calls.py: the numbers of {shared.enum} are not those from 0 on")
+        last = number(max(values, key=lambda one: values[one]))
+        out.append(
+            f"static int uart_check_{shared.enum}(uint8_t {shared.enum})\n{{\n    return uart_unless({shared.enum} <= {last}, U16550_BAD_CODE);\n}}\n"
+        )
     return "\n".join(out)
-
-
-def statuses(enums: Enums) -> str:
-    """The functions that give each error its number."""
-    tree = dict[str, Branches]()
-    for group in calls.NUMBERS:
-        for one in group.members:
-            for path in one.of:
-                root, *rest = path.split(".")
-                put(tree.setdefault(root, {}), rest, number(one.name))
-    return "\n".join(status(enums, root, branches) for root, branches in sorted(tree.items()))
-
-
-def put(branches: Branches, steps: list[str], value: str) -> None:
-    """Puts a number where some steps lead to."""
-    step, *rest = steps
-    if rest:
-        inside = branches.setdefault(step, {})
-        if isinstance(inside, str):
-            raise Wrong(f"calls.py: {step} is an error, and has one in it")
-        put(inside, rest, value)
-    else:
-        branches[step] = value
-
-
-def status(enums: Enums, root: str, branches: Branches) -> str:
-    name = snake(root)
-    is_tagged = f"{name}_kind" in enums.named
-    kind, members = enums.complete(f"{name}_kind" if is_tagged else name, branches)
-    none = f"{kind.split()[1].removesuffix('_kind').upper()}_NONE"
-    of = f"struct {kind.split()[1].removesuffix('_kind')}" if is_tagged else kind
-    cases = [(none, ["return U16550_OK;"])]
-    for member, variant in members:
-        to = branches[variant]
-        cases.append((member, [f"return {to};"] if isinstance(to, str) else inner(enums, snake(variant), to)))
-    on = "error->kind" if is_tagged else "*error"
-    return "\n".join([f"static int uart_status_of_{name}(const {of} *error)", "{", *switch(on, cases, None), "}", ""])
-
-
-def inner(enums: Enums, part: str, branches: Branches) -> list[str]:
-    """What is returned of an error in an error, which has two variants."""
-    for kind, members in enums.named.values():
-        prefix = kind.split()[1].removesuffix("_kind").upper()
-        found = {f"{prefix}_{snake(one).upper()}": to for one, to in branches.items()}
-        if set(members) - {f"{prefix}_NONE"} == set(found):
-            (first, one), (_, other) = sorted(found.items(), key=lambda item: members.index(item[0]))
-            at = f"error->{part}" + (".kind" if kind.endswith("_kind") else "")
-            return [f"return {at} == {first} ? {one} :", f"    {other};"]
-    raise Wrong(f"calls.py: no error in an error has just the variants {sorted(branches)}")
 
 
 def texts() -> str:
@@ -150,10 +121,22 @@ def texts() -> str:
 
 # The functions.
 
+Forms: TypeAlias = Mapping[str, Form]
 
-def layer() -> str:
-    """The text of all functions that are rows of the table."""
-    return "\n".join(function(one) for section in calls.SECTIONS for group in section.groups for one in group.calls if isinstance(one, Call))
+
+def layer(forms: Forms) -> str:
+    """The text of all functions that are rows of the table. `forms` says of the proved functions how they return what they do."""
+    return "\n".join(function(one, forms) for section in calls.SECTIONS for group in section.groups for one in group.calls if isinstance(one, Call))
+
+
+def rows() -> str:
+    """What the rows call of the proved code."""
+    names = {f"uart_config_{one.name}" if of_config(one) else f"uart_{one.name}" for one in all_calls()}
+    return " ".join(f"{name}()" for name in sorted(names)) + " ".join(one.does for one in all_calls())
+
+
+def all_calls() -> list[Call]:
+    return [one for section in calls.SECTIONS for group in section.groups for one in group.calls if isinstance(one, Call)]
 
 
 def type_of(call: Call, name: str) -> str:
@@ -186,56 +169,61 @@ def values(call: Call) -> tuple[list[Value], list[str]]:
     return sorted(taken, key=calls.VALUES.index), passed
 
 
-def locals_of(call: Call, taken: list[Value]) -> list[str]:
+def proved_name(call: Call) -> str:
+    """The name of the proved function of a call."""
+    return f"uart_config_{call.name}" if of_config(call) else f"uart_{call.name}"
+
+
+def outs_of(call: Call, forms: Forms) -> list[tuple[str, str]]:
+    """The types and names of the variables that the proved function writes through pointers."""
+    form = forms.get(proved_name(call))
+    return [
+        (one.of.text(), f"found_{one.name}" if one.name in call.takes.replace("*", " ").split() else one.name) for one in (form.outs if form else ())
+    ]
+
+
+def locals_of(call: Call, taken: list[Value], forms: Forms) -> list[str]:
     """The variables of a function, before that of its status."""
     out = [one.local for one in taken if one.local]
+    # An old gcc does not see that what is read was written.
+    begins = {"struct uart_maybe_u64": " = { false, 0 }", "uint64_t": " = 0"} if of_config(call) else {}
+    outs = [f"{of} {name}{begins.get(of, '')}" for of, name in outs_of(call, forms)]
+    if call.encode == "urgent":
+        return [*out, "struct u16550_urgent found = { 0, 0 }"]
+    if outs:
+        return [*out, *outs]
     if call.pair:
         return [*out, f"{call.pair} found"]
-    if call.stalls:
-        return [*out, "struct uart_maybe_stalled_error stalled"]
-    if call.stalled:
-        return [*out, f"{call.stalled} some"]
-    if call.outcome:
-        return [*out, f"{call.outcome} found"]
     if call.gives:
         return [*out, f"{type_of(call, call.gives)} found"]
-    if call.error:
-        return [*out, f"{error_type(call.error)} error"]
     return out
 
 
-def error_type(name: str) -> str:
-    """How C has an error: struct or enum."""
-    return ("enum" if name in ("ByteSendError", "RemoteReadyToReceiveError") else "struct") + f" uart_{snake(name)}"
-
-
-def body(call: Call, passed: list[str]) -> tuple[list[str], str | None, list[tuple[str, str]]]:
+def body(call: Call, passed: list[str], forms: Forms) -> tuple[list[str], str | None, list[tuple[str, str]]]:
     """What is done once nothing is refused; what is returned; what is written where."""
-    arguments = ", ".join([PLACES["RING" if of_rings(call) else "DRIVER"], *([call.arguments] if call.arguments else passed)])
-    made = f"uart_{call.name}({arguments})"
+    outs = [name for _, name in outs_of(call, forms)]
+    arguments = [PLACES["RING" if of_rings(call) else "DRIVER"], *([call.arguments] if call.arguments else passed)]
+    if call.encode == "urgent":
+        made = f"{proved_name(call)}({', '.join([*arguments, '&found.byte'])})"
+        return [f"found.waits = {made};", "if (!found.waits)", "    found.byte = 0;"], None, [(call.gives, "found")]
+    made = f"{proved_name(call)}({', '.join([*arguments, *(f'&{one}' for one in outs)])})"
     if call.does:
         does = call.does
         for name, place in PLACES.items():
             does = does.replace(name, place)
         return [f"{does};"], "status" if does.startswith("status = ") else None, [(call.gives, "found")] if call.gives else []
     if call.pair:
-        status_of = f"uart_status_of_{snake(call.error)}(&found.error)" if call.error else None
-        pair = "found.value" if call.error else "found"
-        return [f"found = {made};"], status_of, [("dll", f"{pair}.first"), ("dlm", f"{pair}.second")]
+        place = outs[0] if outs else "found"
+        return [f"{'status' if outs else place} = {made};"], "status" if outs else None, [("dll", f"{place}.dll"), ("dlm", f"{place}.dlm")]
     if call.stalls:
-        return [f"stalled = {made};"], "uart_if(stalled.is_error, U16550_STALLED)", [(call.stalls, "stalled.is_error ? stalled.error : len")]
-    if call.stalled:
-        value = "(size_t)some.value" if type_of(call, call.gives) == "size_t" else "some.value"
-        return [f"some = {made};"], "uart_if(some.is_error, U16550_STALLED)", [(call.gives, value)]
-    if call.none:
-        return [f"found = {made};"], f"uart_unless(found.is_some, {number(call.none)})", [(call.gives, "found.value")]
-    if call.gives and call.error:
-        value = f"uart_encode_{call.encode}(found.value)" if call.encode else "found.value"
-        return [f"found = {made};"], f"uart_status_of_{snake(call.error)}(&found.error)", [(call.gives, value)]
+        return [f"status = {made};"], "status", [(call.stalls, f"status == U16550_OK ? len : {outs[0]}")]
+    if call.none and not call.error:
+        return [f"status = uart_unless({made}, {number(call.none)});"], "status", [(call.gives, outs[0])]
+    if call.error or outs:
+        value = f"uart_encode_{call.encode}({outs[0]})" if call.encode else outs[0] if outs else ""
+        return [f"status = {made};"], "status", [(call.gives, value)] if call.gives else []
     if call.gives:
         return [f"found = uart_encode_{call.encode}({made});" if call.encode else f"found = {made};"], None, [(call.gives, "found")]
-    if call.error:
-        return [f"error = {made};"], f"uart_status_of_{snake(call.error)}(&error)", []
     if call.false:
         return [f"status = uart_unless({made}, {number(call.false)});"], "status", []
     return [f"{made};"], None, []
@@ -270,12 +258,12 @@ def entered(call: Call, written: list[tuple[str, str]]) -> list[str]:
     return [*lines, "    if (status != U16550_OK)", "        return status;"]
 
 
-def function(call: Call) -> str:
+def function(call: Call, forms: Forms) -> str:
     taken, passed = values(call)
     if of_config(call):
-        return written_out(call, lines_of_config(call, taken, passed))
-    does, returned, written = body(call, passed)
-    lines = [f"    {one};" for one in locals_of(call, taken)] + entered(call, written)
+        return written_out(call, lines_of_config(call, taken, passed, forms))
+    does, returned, written = body(call, passed, forms)
+    lines = [f"    {one};" for one in locals_of(call, taken, forms)] + entered(call, written)
     if taken:
         lines += [*in_turn([rule.test for rule in taken]), "    if (status != U16550_OK)", "        return uart_leave(uart, status);"]
     return written_out(call, lines + [f"    {one}" for one in does] + ended(call, returned, written))
@@ -285,17 +273,16 @@ def written_out(call: Call, lines: list[str]) -> str:
     return "\n".join([*c.wrapped(f"int u16550_{call.name}({call.takes})"), "{", *lines, "}", ""])
 
 
-def lines_of_config(call: Call, taken: list[Value], passed: list[str]) -> list[str]:
+def lines_of_config(call: Call, taken: list[Value], passed: list[str], forms: Forms) -> list[str]:
     """What a function over a configuration does. There is nothing to enter and to leave."""
-    tests, value = [], "found"
-    if call.error:
-        tests, value = [f"uart_status_of_{snake(call.error)}(&{value}.error)"], f"{value}.value"
-    if call.none:
+    ((_, value),) = outs_of(call, forms)
+    made = f"uart_config_{call.name}(&{', '.join([*passed, f'&{value}'])})"
+    tests = [made] if call.error else [f"uart_unless({made}, {number(call.none)})"]
+    if call.error and call.none:
         tests, value = [*tests, f"uart_unless({value}.is_some, {number(call.none)})"], f"{value}.value"
     first, *others = in_turn([usable(call, call.gives), *(rule.test for rule in taken)])
-    lines = [f"    {one};" for one in locals_of(call, taken)] + [f"    int {first.lstrip()}", *others]
-    lines += ["    if (status != U16550_OK)", "        return status;"]
-    lines += [f"    found = uart_config_{call.name}(&{', '.join(passed)});", *in_turn(tests)]
+    lines = [f"    {one};" for one in locals_of(call, taken, forms)] + [f"    int {first.lstrip()}", *others]
+    lines += ["    if (status != U16550_OK)", "        return status;", *in_turn(tests)]
     return [*lines, "    if (status == U16550_OK)", f"        *{call.gives} = {value};", "    return status;"]
 
 

@@ -12,6 +12,7 @@ static int uart_decode_level(uint8_t from, struct u16550_core_maybe_fifo_trigger
 static int uart_decode_config(const struct u16550_config *from, struct u16550_core_config *to)
 {
     int status = uart_check_flag(from->has_prescaler);
+    to->data_bits = U16550_CORE_WORD_LENGTH_EIGHT_BITS;
     if (status == U16550_OK)
         status = uart_check_flag(from->extra_stop_bits);
     if (status == U16550_OK)
@@ -21,12 +22,13 @@ static int uart_decode_config(const struct u16550_config *from, struct u16550_co
     if (status == U16550_OK)
         status = uart_decode_word_length(from->data_bits, &to->data_bits);
     if (status == U16550_OK)
-        status = uart_decode_parity(from->parity, &to->parity);
+        status = uart_check_parity(from->parity);
+    to->parity = from->parity;
     to->interrupts = from->interrupts;
     to->frequency = from->frequency;
     to->prescaler_division_factor.is_some = from->has_prescaler == 1;
     to->prescaler_division_factor.value = from->prescaler_division_factor;
-    to->baud_rate = uart_baud_rate_from_integer(from->baud_rate);
+    to->baud_rate = uart_baud_rate_from_bps(from->baud_rate);
     to->extra_stop_bits = from->extra_stop_bits == 1;
     to->check_cts_before_sending = from->check_cts_before_sending == 1;
     return status;
@@ -47,14 +49,14 @@ static void uart_encode_config(const struct u16550_core_config *from, struct u16
 {
     bool has_prescaler = from->prescaler_division_factor.is_some;
     to->frequency = from->frequency;
-    to->baud_rate = uart_baud_rate_to_integer(from->baud_rate);
+    to->baud_rate = uart_baud_rate_bps(from->baud_rate);
     to->prescaler_division_factor = has_prescaler ? from->prescaler_division_factor.value : 0;
     to->has_prescaler = has_prescaler;
     to->interrupts = from->interrupts;
     to->fifo_trigger_level = (uint8_t)(from->fifo_trigger_level.is_some ? uart_encode_fifo_trigger_level(from->fifo_trigger_level.value) : 0);
     to->data_bits = uart_encode_word_length(from->data_bits);
     to->extra_stop_bits = from->extra_stop_bits;
-    to->parity = uart_encode_parity(from->parity);
+    to->parity = from->parity;
     to->check_cts_before_sending = from->check_cts_before_sending;
 }
 
@@ -90,9 +92,10 @@ static int uart_decode_setup(const struct u16550_setup *from, struct uart_setup 
 {
     int status = from == NULL ? U16550_NULL_POINTER : uart_check_flag(from->checks_presence);
     if (status == U16550_OK)
-        status = uart_decode_transmitter_wait(from->wait, &to->wait);
+        status = uart_check_transmitter_wait(from->wait);
     if (status != U16550_OK)
         return status;
+    to->wait = from->wait;
     to->checks_presence = from->checks_presence == 1;
     to->outputs = from->outputs;
     return U16550_OK;
@@ -106,56 +109,19 @@ static struct uart_receive_marks uart_marks(size_t hold, size_t release)
     return marks;
 }
 
-static void uart_encode_failure(const struct uart_loopback_error *error, struct u16550_loopback_failure *to)
+static void uart_encode_failure(const struct uart_loopback_failure *from, struct u16550_loopback_failure *to)
 {
-    to->expected = error->unexpected_loopback_byte_expected;
-    to->actual = error->unexpected_loopback_byte_actual;
-    uart_copy_bytes(to->expected_msg, error->unexpected_loopback_msg_expected.bytes, 16);
-    uart_copy_bytes(to->actual_msg, error->unexpected_loopback_msg_actual.bytes, 16);
-}
-
-static struct u16550_difference uart_difference(unsigned expected, unsigned shown)
-{
-    struct u16550_difference made = { (uint16_t)expected, (uint16_t)shown };
-    return made;
-}
-
-static struct u16550_difference uart_encode_difference(const struct uart_configuration_error *error)
-{
-    switch (error->kind) {
-    case UART_CONFIGURATION_ERROR_LINE_CONTROL:
-        return uart_difference(error->line_control_expected, error->line_control_shown);
-    case UART_CONFIGURATION_ERROR_MODEM_CONTROL:
-        return uart_difference(error->modem_control_expected, error->modem_control_shown);
-    case UART_CONFIGURATION_ERROR_INTERRUPTS:
-        return uart_difference(error->interrupts_expected, error->interrupts_shown);
-    case UART_CONFIGURATION_ERROR_DIVISOR:
-        return uart_difference(error->divisor_expected, error->divisor_shown);
-    case UART_CONFIGURATION_ERROR_FIFOS:
-        return uart_difference(error->fifos_expected, error->fifos_shown);
-    case UART_CONFIGURATION_ERROR_NO_DIVISOR:
-    case UART_CONFIGURATION_ERROR_NONE:
-    default:
-        return uart_difference(0, 0);
-    }
-}
-
-static struct u16550_handled uart_encode_handled(struct uart_handled from)
-{
-    struct u16550_handled made = { from.served, uart_encode_handle_end(from.end) };
-    return made;
-}
-
-static struct u16550_urgent uart_encode_urgent(struct u16550_core_maybe_u8 urgent)
-{
-    struct u16550_urgent made = { urgent.is_some, (uint8_t)(urgent.is_some ? urgent.value : 0) };
-    return made;
+    to->expected = from->expected;
+    to->actual = from->actual;
+    uart_copy_bytes(to->expected_msg, from->expected_msg.bytes, 16);
+    uart_copy_bytes(to->actual_msg, from->actual_msg.bytes, 16);
 }
 
 /* A byte that goes first, if there is one. */
 static int uart_decode_urgent(const uint8_t *from, struct u16550_core_maybe_u8 *to)
 {
-    *to = from == NULL ? uart_no_u8() : uart_some_u8(*from);
+    to->is_some = from != NULL;
+    to->value = (uint8_t)(from != NULL ? *from : 0);
     return U16550_OK;
 }
 
@@ -177,7 +143,7 @@ static int uart_check_io(const struct u16550_io *io)
 static int uart_check_memory(struct u16550 *uart)
 {
     int status = UART_USABLE(uart, handle);
-    return status == U16550_OK && uart->is_busy == UART_BUSY ? U16550_BUSY : status;
+    return status == U16550_OK && uart->is_busy == UART_IS_BUSY ? U16550_BUSY : status;
 }
 
 /*
@@ -186,7 +152,7 @@ static int uart_check_memory(struct u16550 *uart)
  */
 static void uart_begin(struct u16550 *uart)
 {
-    uart->is_busy = UART_BUSY;
+    uart->is_busy = UART_IS_BUSY;
     UART_FENCE();
 }
 
@@ -298,34 +264,32 @@ int u16550_set_io(struct u16550 *uart, const struct u16550_io *io)
 
 int u16550_test_loopback(struct u16550 *uart, struct u16550_loopback_failure *failure)
 {
-    struct uart_loopback_error error;
+    struct uart_loopback_failure found = { 0, 0, { { 0 } }, { { 0 } } };
     int status = uart_enter(uart);
     if (status != U16550_OK)
         return status;
-    error = uart_test_loopback(&uart->ring.uart);
-    status = uart_status_of_loopback_error(&error);
+    status = uart_test_loopback(&uart->ring.uart, &found);
     if (status != U16550_OK && failure != NULL)
-        uart_encode_failure(&error, failure);
+        uart_encode_failure(&found, failure);
     return uart_leave(uart, status);
 }
 
 int u16550_check_configured(struct u16550 *uart, uint8_t outputs, struct u16550_difference *difference)
 {
-    struct uart_configuration_error error;
+    struct u16550_difference found = { 0, 0 };
     int status = uart_enter(uart);
     if (status != U16550_OK)
         return status;
     status = UART_ALIGNED(difference, difference);
     if (status != U16550_OK)
         return uart_leave(uart, status);
-    error = uart_check_configured(&uart->ring.uart, outputs);
-    status = uart_status_of_configuration_error(&error);
+    status = uart_check_configured(&uart->ring.uart, outputs, &found);
     if (status != U16550_OK && difference != NULL)
-        *difference = uart_encode_difference(&error);
+        *difference = found;
     return uart_leave(uart, status);
 }
 
-/* Brings the chip into a state in which text goes out, as the emergency console of the Rust crate does. */
+/* Brings the chip into a state in which text goes out. */
 static int uart_take_over(struct u16550_core_driver *uart)
 {
     const uint8_t no_text = U16550_LCR_DLAB | U16550_LCR_SET_BREAK;
@@ -353,6 +317,8 @@ int u16550_emergency(struct u16550 *uart)
         return uart_leave(uart, U16550_HAS_RINGS);
     console = uart_new_with_backend(uart->ring.uart.backend);
     uart_set_spin_limit(&console, uart->ring.uart.spin_limit);
+    /* Nobody knows whether the FIFOs are on. If they are off, the second byte of a burst would be lost. */
+    console.fifo_enabled = false;
     status = uart_take_over(&console);
     if (status == U16550_OK)
         uart->ring.uart = console;
@@ -378,17 +344,15 @@ int u16550_default_config(struct u16550_config *config)
 
 int u16550_nearest(const struct u16550_config *config, uint32_t per_mille, struct u16550_config *nearest)
 {
-    struct uart_config_or_nearest_divisor_error found;
-    struct u16550_core_config decoded;
+    struct u16550_core_config decoded, found;
     int status = UART_USABLE(nearest, config);
     if (status == U16550_OK)
         status = uart_decode_computable(config, &decoded);
     if (status != U16550_OK)
         return status;
-    found = uart_config_nearest(decoded, per_mille);
-    status = uart_status_of_nearest_divisor_error(&found.error);
+    status = uart_config_nearest(decoded, per_mille, &found);
     if (status == U16550_OK)
-        uart_encode_config(&found.value, nearest);
+        uart_encode_config(&found, nearest);
     return status;
 }
 
@@ -404,7 +368,7 @@ int u16550_dump_divisor(const struct u16550_dump *dump, uint16_t *divisor)
 
 int u16550_dump_baud_rate(const struct u16550_dump *dump, const struct u16550_config *config, uint32_t *baud_rate)
 {
-    struct uart_baud_rate_or_non_integer_baud_rate_error rate;
+    struct u16550_core_baud_rate rate;
     struct u16550_core_config decoded;
     int status = UART_USABLE(baud_rate, u32);
     if (status == U16550_OK && dump == NULL)
@@ -417,18 +381,18 @@ int u16550_dump_baud_rate(const struct u16550_dump *dump, const struct u16550_co
         return status;
     if (decoded.frequency == 0 || (decoded.prescaler_division_factor.is_some && decoded.prescaler_division_factor.value > 15))
         return U16550_NOT_COMPUTABLE;
-    rate = uart_config_register_dump_baud_rate(dump, &decoded);
-    if (rate.is_error)
-        return U16550_NON_INTEGER_BAUD_RATE;
-    *baud_rate = uart_baud_rate_to_integer(rate.value);
-    return U16550_OK;
+    status = uart_config_register_dump_baud_rate(dump, &decoded, &rate);
+    if (status == U16550_OK)
+        *baud_rate = uart_baud_rate_bps(rate);
+    return status;
 }
 
 /* --------------------------------------------------------------- rings and lines */
 
 int u16550_ring_new(struct u16550 *uart, uint8_t *memory, size_t size, size_t tx_capacity, size_t rx_capacity)
 {
-    struct uart_ring_or_pair_of_driver_ring_error made;
+    struct u16550_core_driver driver;
+    struct u16550_core_ring made;
     struct uart_memory cells = { memory, size };
     int status = uart_enter(uart);
     if (status != U16550_OK)
@@ -436,10 +400,10 @@ int u16550_ring_new(struct u16550 *uart, uint8_t *memory, size_t size, size_t tx
     status = uart->has_rings ? U16550_HAS_RINGS : uart_array(memory, size, 1, 1);
     if (status != U16550_OK)
         return uart_leave(uart, status);
-    made = uart_ring_new(&cells, uart->ring.uart, tx_capacity, rx_capacity);
-    if (made.is_error)
-        return uart_leave(uart, uart_status_of_ring_error(&made.error.second));
-    uart->ring = made.value;
+    status = uart_ring_new(&cells, uart->ring.uart, tx_capacity, rx_capacity, &made, &driver);
+    if (status != U16550_OK)
+        return uart_leave(uart, status);
+    uart->ring = made;
     uart->has_rings = true;
     return uart_leave(uart, U16550_OK);
 }
@@ -455,18 +419,17 @@ int u16550_ring_end(struct u16550 *uart)
 
 int u16550_ring_stuck(struct u16550 *uart, struct u16550_stuck *stuck)
 {
-    struct u16550_core_maybe_stuck_error found;
+    struct u16550_core_stuck_error found;
     int status = stuck == NULL ? U16550_NULL_POINTER : uart_enter_rings(uart);
     if (status != U16550_OK)
         return status;
-    found = uart_ring_stuck(&uart->ring);
+    stuck->is_stuck = uart_ring_stuck(&uart->ring, &found);
     uart_leave(uart, U16550_OK);
-    stuck->is_stuck = found.is_some;
     stuck->isr = 0;
-    if (found.is_some && found.value.kind == U16550_CORE_STUCK_ERROR_UNKNOWN)
-        stuck->isr = found.value.unknown & 0x0f;
-    else if (found.is_some)
-        stuck->isr = uart_interrupt_type_to_bits(found.value.pending);
+    if (stuck->is_stuck && found.kind == U16550_RING_STUCK_UNKNOWN)
+        stuck->isr = found.unknown & 0x0f;
+    else if (stuck->is_stuck)
+        stuck->isr = uart_interrupt_type_to_bits(found.pending);
     return U16550_OK;
 }
 
@@ -475,10 +438,16 @@ static inline size_t uart_line_ports_number(const struct uart_line_ports *ports)
     return ports->count;
 }
 
+/* The port of this number. A compiler would call a multiplication where a processor has none. */
+static struct u16550_line_port *uart_line_port(struct u16550_line_port *ports, size_t port)
+{
+    return (struct u16550_line_port *)(void *)((uint8_t *)ports + uart_times(port, sizeof(struct u16550_line_port)));
+}
+
 static bool
 uart_line_ports_lower(struct uart_line_ports *ports, size_t port, size_t limit, uint32_t rounds)
 {
-    struct u16550_line_port *at = &ports->ports[port];
+    struct u16550_line_port *at = uart_line_port(ports->ports, port);
     struct uart_lowered lowered;
     at->handled.served = 0;
     at->handled.end = U16550_HANDLE_IDLE;
@@ -488,16 +457,16 @@ uart_line_ports_lower(struct uart_line_ports *ports, size_t port, size_t limit, 
     lowered = uart_ring_lower_line(&at->uart->ring, limit, rounds);
     uart_leave(at->uart, U16550_OK);
     at->enabled = lowered.enabled;
-    at->status = uart_status_of_stuck_error(&lowered.handled.error);
+    at->status = lowered.handled.error.kind;
     if (at->status != U16550_OK)
         return false;
-    at->handled = uart_encode_handled(lowered.handled.value);
+    at->handled = lowered.handled.value;
     return at->handled.served > 0;
 }
 
 static void uart_line_ports_raise(struct uart_line_ports *ports, size_t port)
 {
-    struct u16550_line_port *at = &ports->ports[port];
+    struct u16550_line_port *at = uart_line_port(ports->ports, port);
     if (uart_enter_rings(at->uart) != U16550_OK)
         return;
     uart_ring_raise_line(&at->uart->ring, at->enabled);
@@ -510,9 +479,10 @@ int u16550_line_handle(struct u16550_line_port *ports, size_t count, size_t limi
     int status = served == NULL ? U16550_NULL_POINTER :
         uart_array(ports, count, sizeof(struct u16550_line_port), offsetof(struct uart_aligned_port, value));
     for (size_t port = 0; status == U16550_OK && port < count; port++) {
-        status = uart_enter_rings(ports[port].uart);
+        struct u16550 *uart = uart_line_port(ports, port)->uart;
+        status = uart_enter_rings(uart);
         if (status == U16550_OK)
-            uart_leave(ports[port].uart, U16550_OK);
+            uart_leave(uart, U16550_OK);
     }
     if (status == U16550_OK)
         *served = uart_handle_line(&line, limit, rounds);
@@ -555,8 +525,8 @@ static bool uart_is_utf8(const uint8_t *text, size_t len)
 static int uart_send_text(struct u16550 *uart, const char *text, size_t len, size_t *done, bool is_checked)
 {
     const uint8_t *bytes = (const uint8_t *)text;
-    struct uart_maybe_stalled_error stalled;
     struct uart_tty terminal;
+    size_t sent = 0;
     int status = UART_ALIGNED(done, size);
     if (status == U16550_OK)
         status = uart_enter(uart);
@@ -568,12 +538,12 @@ static int uart_send_text(struct u16550 *uart, const char *text, size_t len, siz
     if (status != U16550_OK)
         return uart_leave(uart, status);
     terminal.inner = uart->ring.uart;
-    stalled = uart_tty_write_raw_text(&terminal, bytes, len);
+    status = uart_tty_write_raw_text(&terminal, bytes, len, &sent);
     uart->ring.uart = terminal.inner;
     uart_leave(uart, U16550_OK);
-    if (stalled.is_error && done != NULL)
-        *done = stalled.error;
-    return uart_if(stalled.is_error, U16550_STALLED);
+    if (status != U16550_OK && done != NULL)
+        *done = sent;
+    return status;
 }
 
 int u16550_write_text(struct u16550 *uart, const char *text, size_t len, size_t *done)

@@ -17,7 +17,7 @@ static int uart_enter_bus(struct u16550_bus *bus)
         return U16550_NOT_MADE;
     if (bus->is_busy != 0)
         return U16550_BUSY;
-    bus->is_busy = UART_BUSY;
+    bus->is_busy = UART_IS_BUSY;
     UART_FENCE();
     /* A handler that came before the sign was set may have ended the bus. */
     if (bus->mark != UART_BUS_MARK) {
@@ -38,10 +38,12 @@ static int uart_decode_direction(const struct u16550_direction *from, struct u16
 {
     int status = from == NULL ? U16550_NULL_POINTER : uart_check_flag(from->sends_when_set);
     if (status == U16550_OK)
-        status = uart_decode_direction_line(from->line, &to->line);
-    if (status == U16550_OK)
-        to->sends_when_set = from->sends_when_set == 1;
-    return status;
+        status = uart_check_direction_line(from->line);
+    if (status != U16550_OK)
+        return status;
+    to->line = from->line;
+    to->sends_when_set = from->sends_when_set == 1;
+    return U16550_OK;
 }
 
 int u16550_direction_receiving(const struct u16550_direction *direction, uint8_t outputs, uint8_t *receiving)
@@ -55,11 +57,12 @@ int u16550_direction_receiving(const struct u16550_direction *direction, uint8_t
 
 int u16550_bus_new(struct u16550_bus *bus, struct u16550 *uart, const struct u16550_direction *direction)
 {
-    struct uart_half_duplex_or_pair_of_driver_busy_error made;
+    struct u16550_core_half_duplex made;
+    struct u16550_core_driver driver;
     struct u16550_core_direction decoded;
     uint32_t before;
     int status = UART_USABLE(bus, bus);
-    if (status == U16550_OK && bus->is_busy == UART_BUSY)
+    if (status == U16550_OK && bus->is_busy == UART_IS_BUSY)
         status = U16550_BUSY;
     if (status == U16550_OK)
         status = uart_enter(uart);
@@ -70,16 +73,16 @@ int u16550_bus_new(struct u16550_bus *bus, struct u16550 *uart, const struct u16
         return uart_leave(uart, status);
     /* A handler that comes from now on finds a call that is not done, at a bus that was there too. */
     before = bus->is_busy;
-    bus->is_busy = UART_BUSY;
+    bus->is_busy = UART_IS_BUSY;
     UART_FENCE();
-    made = uart_half_duplex_new(uart->ring.uart, decoded);
-    if (made.is_error) {
-        uart->ring.uart = made.error.first;
+    status = uart_half_duplex_new(uart->ring.uart, decoded, &made, &driver);
+    if (status != U16550_OK) {
+        uart->ring.uart = driver;
         bus->is_busy = before;
-        return uart_leave(uart, U16550_BUS_BUSY);
+        return uart_leave(uart, status);
     }
     bus->mark = UART_BUS_MARK;
-    bus->bus = made.value;
+    bus->bus = made;
     uart->mark = 0;
     uart_leave(uart, U16550_OK);
     return uart_leave_bus(bus, U16550_OK);
@@ -124,10 +127,11 @@ int u16550_bus_try_finish(struct u16550_bus *bus)
 
 int u16550_bus_flush(struct u16550_bus *bus)
 {
+    size_t done;
     int status = uart_enter_bus(bus);
     if (status != U16550_OK)
         return status;
-    return uart_leave_bus(bus, uart_if(uart_half_duplex_flush(&bus->bus).is_error, U16550_STALLED));
+    return uart_leave_bus(bus, uart_half_duplex_flush(&bus->bus, &done));
 }
 
 int u16550_bus_is_idle(struct u16550_bus *bus, uint8_t *idle)
@@ -168,7 +172,7 @@ int u16550_bus_lsr(struct u16550_bus *bus, uint8_t *value)
 
 int u16550_bus_send_bytes(struct u16550_bus *bus, const uint8_t *buffer, size_t len, size_t *count)
 {
-    struct uart_maybe_u64 sent;
+    size_t sent;
     int status = UART_USABLE(count, size);
     if (status == U16550_OK)
         status = uart_enter_bus(bus);
@@ -177,17 +181,16 @@ int u16550_bus_send_bytes(struct u16550_bus *bus, const uint8_t *buffer, size_t 
     status = uart_array(buffer, len, 1, 1);
     if (status != U16550_OK)
         return uart_leave_bus(bus, status);
-    sent = uart_half_duplex_send_bytes(&bus->bus, buffer, len);
-    status = uart_leave_bus(bus, uart_unless(sent.is_some, U16550_BUS_NOT_SENDING));
+    status = uart_unless(uart_half_duplex_send_bytes(&bus->bus, buffer, len, &sent), U16550_BUS_NOT_SENDING);
+    uart_leave_bus(bus, status);
     if (status == U16550_OK)
-        *count = (size_t)sent.value;
+        *count = sent;
     return status;
 }
 
 int u16550_bus_send_bytes_exact(struct u16550_bus *bus, const uint8_t *buffer, size_t len, size_t *done)
 {
-    struct uart_send_error error;
-    size_t sent = len;
+    size_t sent = 0;
     int status = UART_ALIGNED(done, size);
     if (status == U16550_OK)
         status = uart_enter_bus(bus);
@@ -196,14 +199,9 @@ int u16550_bus_send_bytes_exact(struct u16550_bus *bus, const uint8_t *buffer, s
     status = uart_array(buffer, len, 1, 1);
     if (status != U16550_OK)
         return uart_leave_bus(bus, status);
-    error = uart_half_duplex_send_bytes_exact(&bus->bus, buffer, len);
-    if (error.kind == UART_SEND_ERROR_NOT_SENDING)
-        sent = 0;
-    else if (error.kind == UART_SEND_ERROR_STALLED)
-        sent = error.stalled;
-    status = uart_leave_bus(bus, uart_status_of_send_error(&error));
+    status = uart_leave_bus(bus, uart_half_duplex_send_bytes_exact(&bus->bus, buffer, len, &sent));
     if (done != NULL)
-        *done = sent;
+        *done = status == U16550_OK ? len : sent;
     return status;
 }
 

@@ -2,71 +2,47 @@
 
 int u16550_console_init(struct u16550_console *uart)
 {
-    switch (uart_set_up(uart, U16550_CONSOLE_DIVISOR)) {
-    case UART_INIT_ERROR_NONE:
-        return U16550_CONSOLE_OK;
-    case UART_INIT_ERROR_DEVICE_NOT_PRESENT:
-        return U16550_CONSOLE_DEVICE_NOT_PRESENT;
-    default:
-        return U16550_CONSOLE_INIT_STALLED;
-    }
+    return uart_set_up(uart, U16550_CONSOLE_DIVISOR);
 }
 
 int u16550_console_attach(struct u16550_console *uart)
 {
-    switch (uart_attach(uart).error) {
-    case UART_ATTACH_ERROR_NONE:
-        return U16550_CONSOLE_OK;
-    case UART_ATTACH_ERROR_DIVISOR_LATCH_OPEN:
-        return U16550_CONSOLE_DIVISOR_LATCH_OPEN;
-    case UART_ATTACH_ERROR_LOOPBACK:
-        return U16550_CONSOLE_LOOPBACK;
-    default:
-        return U16550_CONSOLE_NO_DIVISOR;
-    }
+    struct uart_latch latch;
+    return uart_attach(uart, &latch);
 }
 
 int u16550_console_test_loopback(struct u16550_console *uart)
 {
-    switch (uart_test_loopback(uart)) {
-    case UART_LOOPBACK_ERROR_NONE:
-        return U16550_CONSOLE_OK;
-    case UART_LOOPBACK_ERROR_SEND_ERROR:
-        return U16550_CONSOLE_LOOPBACK_NO_CAPACITY;
-    case UART_LOOPBACK_ERROR_UNEXPECTED_LOOPBACK_BYTE:
-        return U16550_CONSOLE_LOOPBACK_UNEXPECTED_BYTE;
-    case UART_LOOPBACK_ERROR_UNEXPECTED_LOOPBACK_MSG:
-        return U16550_CONSOLE_LOOPBACK_UNEXPECTED_MSG;
-    default:
-        return U16550_CONSOLE_LOOPBACK_STALLED;
-    }
+    return uart_test_loopback(uart);
 }
 
 int u16550_console_put(struct u16550_console *uart, uint8_t byte)
 {
-    return uart_send_singly(uart, &byte, 1).is_error ? U16550_CONSOLE_STALLED : U16550_CONSOLE_OK;
+    size_t done;
+    return uart_send_singly(uart, &byte, 1, &done);
 }
 
 int u16550_console_try_put(struct u16550_console *uart, uint8_t byte)
 {
-    return uart_try_send_byte(uart, byte) == UART_BYTE_SEND_ERROR_NONE ? U16550_CONSOLE_OK : U16550_CONSOLE_NO_CAPACITY;
+    return uart_try_send_byte(uart, byte);
 }
 
 int u16550_console_get(struct u16550_console *uart)
 {
-    struct uart_maybe_u8 found = uart_try_receive_byte(uart);
-    return found.is_some ? found.value : -1;
+    uint8_t byte;
+    return uart_try_receive_byte(uart, &byte) ? byte : -1;
 }
 
 size_t u16550_console_send(struct u16550_console *uart, const uint8_t *bytes, size_t len)
 {
-    struct uart_maybe_stalled_error stalled = uart_send_bytes_exact(uart, bytes, len);
-    return stalled.is_error ? stalled.error : len;
+    size_t done;
+    return uart_send_bytes_exact(uart, bytes, len, &done) == U16550_CONSOLE_OK ? len : done;
 }
 
 int u16550_console_write_text(struct u16550_console *uart, const char *text, size_t len)
 {
-    return uart_tty_write_raw_text(uart, (const uint8_t *)text, len).is_error ? U16550_CONSOLE_STALLED : U16550_CONSOLE_OK;
+    size_t done;
+    return uart_tty_write_raw_text(uart, (const uint8_t *)text, len, &done);
 }
 
 /* As u16550_emergency, which is by hand too. */
@@ -86,7 +62,8 @@ int u16550_console_emergency(struct u16550_console *uart)
     uart_set_modem_control(kept | U16550_MCR_DTR | U16550_MCR_RTS);
     if ((uart_device_read(UART_MCR) & U16550_MCR_LOOP_BACK) != 0)
         return U16550_CONSOLE_LOOPBACK;
-    uart->fifo_enabled = true;
+    /* Nobody knows whether the FIFOs are on. If they are off, the second byte of a burst would be lost. */
+    uart->fifo_enabled = false;
     uart->saved_lsr = 0;
     return U16550_CONSOLE_OK;
 }

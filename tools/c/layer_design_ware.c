@@ -57,7 +57,7 @@ int (u16550_new_mmio_design_ware)(struct u16550 *uart, struct u16550_design_ware
 
 int u16550_design_ware_fault(struct u16550 *uart, struct u16550_design_ware *chip)
 {
-    struct u16550_core_maybe_design_ware_fault fault;
+    uint8_t fault;
     int status = UART_USABLE(chip, chip);
     if (status == U16550_OK)
         status = uart_enter(uart);
@@ -65,6 +65,5 @@ int u16550_design_ware_fault(struct u16550 *uart, struct u16550_design_ware *chi
         return status;
     if (uart->ring.uart.backend.io.context != (void *)chip)
         return uart_leave(uart, U16550_NOT_MADE);
-    fault = uart_design_ware_fault(&chip->chip);
-    return uart_leave(uart, fault.is_some ? uart_encode_design_ware_fault(fault.value) : U16550_OK);
+    return uart_leave(uart, uart_design_ware_fault(&chip->chip, &fault) ? (int)fault : U16550_OK);
 }

@@ -1,26 +1,24 @@
 /* --------------------------------------------------------------- what is by hand: memory of the caller, and calls that are not done */
 
 /* Takes so many cells from the front of the memory, if there are so many. */
-static struct uart_maybe_vec_u8
-uart_cells_in_memory(struct uart_memory *memory, uint8_t value, size_t count)
+static bool
+uart_cells_in_memory(struct uart_memory *memory, uint8_t value, size_t count, struct u16550_core_vec_u8 *cells)
 {
-    struct uart_maybe_vec_u8 made = { false, { NULL, 0, 0 } };
     if (count > memory->len)
-        return made;
-    made.is_some = true;
-    made.value.data = memory->data;
-    made.value.len = count;
-    made.value.capacity = count;
+        return false;
+    cells->data = memory->data;
+    cells->len = count;
+    cells->capacity = count;
     memory->data += count;
     memory->len -= count;
     for (size_t i = 0; i < count; i++)
-        made.value.data[i] = value;
-    return made;
+        cells->data[i] = value;
+    return true;
 }
 
 /* Marks memory with a driver in it, and a call that is not done. Either is unlikely in other memory. */
 #define UART_MARK UINT32_C(0x16550a5e)
-#define UART_BUSY UINT32_C(0x16550b5b)
+#define UART_IS_BUSY UINT32_C(0x16550b5b)
 
 /* What is before this in the text is done before what is behind it, as an interrupt handler of the same processor sees it. */
 #if defined(__GNUC__)
@@ -97,7 +95,7 @@ static int uart_enter(struct u16550 *uart)
         return U16550_NOT_MADE;
     if (uart->is_busy != 0)
         return U16550_BUSY;
-    uart->is_busy = UART_BUSY;
+    uart->is_busy = UART_IS_BUSY;
     UART_FENCE();
     /* A handler that came before the sign was set may have ended the driver. */
     if (uart->mark != UART_MARK) {

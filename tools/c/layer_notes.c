@@ -22,7 +22,8 @@ static struct u16550_notes *uart_notes_of(const struct u16550 *uart)
 
 int u16550_note_errors(struct u16550 *uart, struct u16550_notes *notes, uint8_t *memory, size_t capacity)
 {
-    struct uart_error_notes_or_pair_of_ring_error made;
+    struct u16550_device given;
+    struct u16550_core_error_notes made;
     struct uart_memory cells = { memory, capacity };
     struct u16550_device *device;
     int status = UART_USABLE(notes, notes);
@@ -34,10 +35,10 @@ int u16550_note_errors(struct u16550 *uart, struct u16550_notes *notes, uint8_t 
     if (status != U16550_OK)
         return uart_leave(uart, status);
     device = uart_backend_mut(&uart->ring.uart);
-    made = uart_error_notes_new(&cells, *device, capacity);
-    if (made.is_error)
-        return uart_leave(uart, uart_status_of_ring_error(&made.error.second));
-    notes->notes = made.value;
+    status = uart_error_notes_new(&cells, *device, capacity, &made, &given);
+    if (status != U16550_OK)
+        return uart_leave(uart, status);
+    notes->notes = made;
     device->io.context = notes;
     device->io.read = uart_noted_read;
     device->io.write = uart_noted_write;
@@ -61,7 +62,7 @@ int u16550_end_notes(struct u16550 *uart)
 
 int u16550_ring_take_with_errors(struct u16550 *uart, struct u16550_received *received, size_t len, size_t *count)
 {
-    struct uart_u64_or_unnoted_error copied;
+    size_t copied, unnoted;
     const struct u16550_notes *notes;
     int status = UART_USABLE(count, size);
     if (status == U16550_OK)
@@ -72,10 +73,9 @@ int u16550_ring_take_with_errors(struct u16550 *uart, struct u16550_received *re
     status = notes == NULL ? U16550_NO_NOTES : uart_array(received, len, sizeof(struct u16550_received), 1);
     if (status != U16550_OK)
         return uart_leave(uart, status);
-    copied = uart_ring_copy_with_notes(&uart->ring, &notes->notes, received, len);
-    if (!copied.is_error)
-        uart_ring_drop_taken(&uart->ring, (size_t)copied.value);
-    status = uart_leave(uart, uart_if(copied.is_error, U16550_RING_UNNOTED));
-    *count = (size_t)(copied.is_error ? copied.error : copied.value);
-    return status;
+    status = uart_ring_copy_with_notes(&uart->ring, &notes->notes, received, len, &copied, &unnoted);
+    if (status == U16550_OK)
+        uart_ring_drop_taken(&uart->ring, copied);
+    *count = status == U16550_OK ? copied : unnoted;
+    return uart_leave(uart, status);
 }

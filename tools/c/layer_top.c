@@ -46,8 +46,16 @@ struct uart_line_ports {
     size_t count;
 };
 
-static struct uart_maybe_vec_u8
-uart_cells_in_memory(struct uart_memory *memory, uint8_t value, size_t count);
+/* What came back in a loopback test that failed. */
+struct uart_loopback_failure {
+    uint8_t expected;
+    uint8_t actual;
+    struct uart_bytes16 expected_msg;
+    struct uart_bytes16 actual_msg;
+};
+
+static bool
+uart_cells_in_memory(struct uart_memory *memory, uint8_t value, size_t count, struct u16550_core_vec_u8 *cells);
 static inline size_t uart_line_ports_number(const struct uart_line_ports *ports);
 static bool
 uart_line_ports_lower(struct uart_line_ports *ports, size_t port, size_t limit, uint32_t rounds);

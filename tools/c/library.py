@@ -3,17 +3,22 @@ from __future__ import annotations
 
 import dataclasses
 import re
-from collections.abc import Callable, Sequence
+from collections.abc import Callable, Mapping, Sequence
 from typing import TypeAlias
 
+import called
 import in_place
 import passes
+import readable
+import results
+import structs
 import syntax as c
 from body import NATIVE, OF_C, Body, InC, Pair, expression
-from names import Source, snake, sought
-from representation import NO_DEVICE, Kind, Representation, comment_of, safe
+from comments import Said, Words
+from names import Function, Source, snake
+from representation import INT, NO_DEVICE, Kind, Representation, comment_of, safe
 from translate import Dictionary, Node, Program, Type, Types, Unknown, head
-from tree import DEVICE, OF_CALLER, PATIENCE, PORTS, Forest, Key, Static
+from tree import DEVICE, OF_CALLER, PATIENCE, PORTS, Assign, Forest, Key, Place, Static
 
 # Parameters that are one constant in each call, by their places.
 Known: TypeAlias = dict[int, c.Expression]
@@ -96,20 +101,30 @@ MOST_BYTES, MOST_STRUCTS = 64, 16
 # The functions whose second argument is the offset of a register, and the names of these.
 READ = dict(enumerate("DATA IER ISR LCR MCR LSR MSR SPR".split()))
 WRITTEN = {**READ, 2: "FCR"}
+LATCH = {0: "DLL", 1: "DLM"}
 OFFSETS = {
     "uart_device_read": READ,
     "uart_read_register": READ,
     "uart_device_write": WRITTEN,
     "uart_write_register": WRITTEN,
+    "uart_read_plain": READ,
     "uart_design_ware_load": READ,
     "uart_design_ware_store": WRITTEN,
 }
+# Bytes that are characters.
+CHARACTERS = {value: f"'{chr(value)}'" for value in range(32, 127) if chr(value) not in "'\\"} | {8: r"'\b'", 10: r"'\n'", 13: r"'\r'"}
+# The registers, as variables that hold what one shows are called.
+REGISTERS = re.compile(r"^(ier|isr|fcr|lcr|mcr|lsr|msr)(_|\d|$)")
+# What may be a number of the source, and not one of a computation: what is beside such an operator.
+BESIDE_NUMBERS = {"&", "|", "^", "==", "!=", "<", "<=", ">", ">="}
 
 
 # A compiler is told to put a function in the place of its calls up to so many lines, and up to so many if one of the calls is in a loop: it
 # would not by itself, and then a byte that is received takes twice as many instructions. Not one of more lines, as that which writes a
 # burst: it is called once for 16 bytes, and at five places.
 SHORT, SHORT_IN_LOOP = 6, 10
+# Short ones that are called from so many places that a copy at each is no gain.
+CALLED_OFTEN = ("uart_write_burst", "uart_send_gathered")
 
 
 @dataclasses.dataclass(eq=False)
@@ -125,6 +140,11 @@ class Written:
     proved: list[str]
     # Whether it is not to stand in the place of its calls.
     is_apart: bool
+    # The struct of its result, if that has more than one part, and how it returns them.
+    whole: c.Type
+    form: results.Form | None = None
+    # The parameters by which it does.
+    pointers: list[c.Variable] = dataclasses.field(default_factory=list)
     is_public: bool = False
     statements: list[c.Statement] = dataclasses.field(default_factory=list)
 
@@ -173,6 +193,10 @@ def is_known(value: c.Expression) -> bool:
     return is_constant(value)
 
 
+def is_known_or_number(value: c.Expression) -> bool:
+    return is_known(value) or isinstance(value, c.Literal)
+
+
 def with_arithmetic(one: c.Expression) -> c.Expression:
     """A product, a quotient or a rest by the function for it."""
     if not isinstance(one, c.Binary) or not isinstance(one.of, c.Number) or one.of.text() == "size_t":
@@ -192,6 +216,11 @@ def constants_in(value: c.Expression) -> list[c.Word]:
 def with_arguments(value: c.Expression, parameters: list[c.Variable], arguments: list[c.Expression]) -> c.Expression:
     """What a call stands for, with its arguments in the place of the parameters."""
     return c.rebuilt(value, lambda part: arguments[parameters.index(part.variable)] if isinstance(part, c.Var) else part)
+
+
+def as_bits(one: c.Expression) -> c.Expression:
+    """A number that is written as bits are."""
+    return dataclasses.replace(one, is_bits=one.value > 1) if isinstance(one, c.Literal) else one
 
 
 def without_destructors(key: Key) -> Key:
@@ -230,14 +259,16 @@ class Library:
         self.functions, self.order = dict[Key, Written | None](), list[Written]()
         # The name in the header, and those of the parameters there, by the function's name in the MIR.
         self.exports = dict[str, tuple[str, list[str]]]()
-        # What makes structs: its text by its name and the constants that it puts in.
-        self.makers, self.helpers = dict[tuple[str, tuple[tuple[str, str], ...]], str](), set[str]()
+        # How functions return results, by their names; and what is by hand that they call.
+        self.forms, self.helpers = dict[str, results.Form](), dict[str, str]()
+        # The numbers of the source that have a name there, and what stands in the place of calls of functions of libraries.
+        self.numbers, self.inlined = dict[str, str](), dict[str, tuple[c.Expression, list[c.Variable]]]()
         self.bits, self.offsets, self.statics = dict[str, int](), dict[str, int](), dict[tuple[int, ...], str]()
         # The functions that move items, by their names.
         self.movers = dict[str, str]()
         # What the header calls the offsets of registers that are read, and of those that are written; and the numbers that functions return.
         self.registers, self.returned = list[dict[int, str]](), dict[int, str]()
-        self.short, self.apart, self.words = SHORT, "static", dict[str, str]()
+        self.short, self.apart, self.words = SHORT, "static", dict.fromkeys(CALLED_OFTEN, "static")
         # Keys of one function by what they have in common, and the functions that only compute.
         self.same, self.quiet = dict[Key, Key](), set[str]()
         # The members of structs that have one value for ever, by the struct and the name: that value, or None if nobody reads it. Writes of
@@ -246,6 +277,8 @@ class Library:
         # The calls that are made in the place of those which only pass on their arguments, and parameters that nothing reads any more.
         self.passed_on, self.unread = set[str](), dict[str, set[int]]()
         self.instead = dict[str, tuple[c.Expression, list[c.Variable]]]()
+        # What comments say otherwise in this pair.
+        self.said = Said()
         # More structs that are made where they are returned.
         self.large = set[str]()
         # What is known of a function, by its name; and what stands in the place of its calls, if that is one value or one call.
@@ -289,13 +322,18 @@ class Library:
             info = body.information
             is_public = key[0] in self.exports
             # What is proved of a function of the header is said there.
-            proved = [] if is_public else self.source.proved(info)
+            words = self.words_of(key, body)
+            proved = [] if is_public else [" ".join(words.text([one])) for one in self.source.proved(info)]
             known = self.known.get(key, {})
-            comment = comment_of([*info.comment, *self.told_of(known, parameters)], proved=proved) if info else ""
-            written = Written(self.name_of(key), parameters, parameters, body.result, comment, proved, info is not None and info.is_apart)
+            comment = comment_of([*words.text(info.comment), *self.told_of(known, parameters)], proved=proved) if info else ""
+            written = Written(
+                self.name_of(key), parameters, parameters, body.result, comment, proved, info is not None and info.is_apart, body.result
+            )
             if is_public:
                 written.publish(self.exports[key[0]][1])
             self.put_known(body.statements, written, known)
+            if not self.exports:
+                note_names(body, parameters)
             self.put_members(body.statements)
             written.statements = in_place.run(passes.run(body.statements, body.result, self.with_names), self.is_large)
             # What is constant may be an argument that is known, of another call.
@@ -317,21 +355,42 @@ class Library:
                 self.put_members(written.statements)
                 self.leave_out_unread(written)
                 passes.without_idle_arrays(written.statements)
-                written.statements = passes.refined(passes.without_quiet(written.statements, self.quiet), self.with_names)
+                for _ in range(2):
+                    # A call that only computes is seen to be idle once nothing reads what it returns.
+                    written.statements = passes.refined(passes.without_quiet(written.statements, self.quiet), self.with_names)
                 if all(passes.is_quiet(one, self.quiet) for one in written.statements):
                     self.quiet.add(written.name)
                 self.note_unread(written)
                 passes.narrow_counters(written.statements)
+            if not self.exports:
+                self.convert(written, body)
+            if not self.exports:
+                self.make_readable(written)
+            written.statements = structs.hoisted(written.statements, self.name_of_struct)
             passes.on_expressions(written.statements, self.with_register)
+            written.statements = readable.with_latch(written.statements, has_latch_bit, self.with_latch)
             passes.on_expressions(written.statements, with_arithmetic)
-            name_variables(body, written)
+            if not self.exports:
+                readable.without_idle_casts(written.statements, written.result)
+            name_variables(body, written, self.parameters_of)
+            if not self.exports:
+                written.statements = readable.with_truths(written.statements)
             if self.registers:
                 self.name_registers(written, *self.registers)
+            if not self.exports:
+                self.name_offsets(written)
+                self.name_numbers(written, key, info)
             parameters = written.parameters
             value = passes.only_value(written.statements, parameters)
-            if self.exports and not is_public and value is not None and (known or is_constant(value)):
+            stands = self.exports and not is_public and (known or value is not None and is_constant(value))
+            if value is not None and (stands or self.fixed and known and isinstance(value, c.Literal)):
                 self.known_of[written.name], self.stands_for[written.name] = known, (value, parameters)
+            if not self.exports and key[0].split("::")[0] not in self.forest.own and (value := passes.inner_value(written.statements)):
+                self.inlined[written.name] = value, written.given
             passes.declare(written.statements)
+            structs.placed(written.statements, self.members_of_maker)
+            if not self.exports:
+                written.statements = readable.with_whole_structs(written.statements, self.members_of)
             written.statements[:0] = passes.unread(written.statements, parameters)
             self.functions[key] = written
             self.order.append(written)
@@ -339,6 +398,76 @@ class Library:
         if found is None:
             raise Unknown(f"{key[0]} calls itself, or a function that could not be translated")
         return found
+
+    def make_readable(self, written: Written) -> None:
+        """Gives a function the shapes that somebody would write."""
+        made = readable.without_flags(readable.with_joined_tests(written.statements))
+        made = readable.without_overwritten(readable.with_one_variable(readable.without_result_flags(made)))
+        made = passes.refined(made, self.with_names)
+        passes.on_expressions(made, lambda one: readable.whole(one, self.members_of))
+        made = readable.with_one_idle(readable.without_nulls(readable.without_single_cells(made)))
+        made = readable.with_constant_arrays(
+            made,
+            lambda key: c.Word(self.statics[key], c.Pointer(c.BYTE, True)) if key in self.statics else None,
+            lambda *given: self.helper("uart_copy_bytes", [*given], c.VOID),
+        )
+        made = readable.without_copies(readable.with_one_variable(readable.with_whole_structs(made, self.members_of)))
+        made = readable.without_nested_choices(readable.with_guards(made), name_of_choice)
+        made = readable.without_choices_of_choices(made)
+        passes.on_expressions(made, readable.with_bytes)
+        passes.on_expressions(made, readable.with_constant_last)
+        written.statements = made
+
+    def members_of(self, of: c.Type) -> list[str]:
+        """The members of a struct of C, in order."""
+        name = of.text().removeprefix("struct ")
+        if text := next((text for its, text in self.types.declarations if its == name), None):
+            return re.findall(r"(?m)^    [^\n/]*?(\w+)(?:\[\w+\])?;", text)
+        known = next((its for its, shown in self.types.public.items() if shown == name), None)
+        return [member for member, inner in self.types.fields(known) if not self.types.is_unit(inner)] if known else []
+
+    def parameters_of(self, name: str) -> list[str]:
+        """The names of the parameters of a function that is translated."""
+        written = next((one for one in self.order if one.name == name), None)
+        return [one.known_name() for one in written.parameters] if written else []
+
+    def with_latch(self, one: c.CallOf) -> c.CallOf:
+        """An access to one of the first two registers, while they are the divisor latch."""
+        if one.name not in OFFSETS or not isinstance(one.arguments[1], c.Literal) or one.arguments[1].value not in LATCH:
+            return one
+        return dataclasses.replace(one, arguments=[one.arguments[0], self.register(one.arguments[1], LATCH), *one.arguments[2:]])
+
+    def words_of(self, key: Key, body: Body) -> Words:
+        """What the names in a function's comment are in C."""
+        of = body.tree.locals[0]
+        kind, crate = self.types.kind(of), key[0].split("::")[0]
+        error = kind.error if kind.kind in ("status", "outcome", "either") else kind.value if kind.flag == "is_error" else None
+        numbers = dict[str, str]()
+        if isinstance(error, tuple) and (told := self.types.told_of(error)):
+            numbers = {name: one if isinstance(one, str) else " or ".join(dict.fromkeys(one.values())) for name, one in told.numbers.items()}
+        elif isinstance(error, tuple):
+            numbers = {name: number for name, number in self.types.failures.items()}
+        is_true = of == "Bool" or kind.kind == "option" and kind.flag == "is_some"
+        return Words(crate, frozenset() if self.exports else self.types.calls, numbers, is_true, self.types.ok, self.said)
+
+    def convert(self, written: Written, body: Body) -> None:
+        """Makes a function return what it returns as C has it, and call others so."""
+        result = body.information.result if body.information else ""
+        is_size = re.search(r"\busize\b", result) is not None and not re.search(r"\bu64\b", result)
+        form = results.form_of(self.types, body.tree.locals[0], written.name, is_size)
+        taken = {one.name for one in written.parameters}
+        pointers = [
+            c.Variable(c.Pointer(one.of), one.name if one.name not in taken else f"{one.name}_of", True, -1) for one in (form.outs if form else ())
+        ]
+        written.statements = results.Conversion(self.forms, form, pointers).run(written.statements)
+        results.pass_on_pointers(written.statements)
+        written.statements = passes.refined(written.statements, self.with_names)
+        results.pass_on_pointers(written.statements)
+        results.join_statuses(written.statements)
+        if form:
+            self.forms[written.name] = written.form = form
+            written.result, written.pointers, written.parameters = form.status, pointers, [*written.parameters, *pointers]
+        passes.settle(written.statements, written.result)
 
     # What is known of parameters.
 
@@ -353,16 +482,23 @@ class Library:
                 continue
             facts = passes.Facts(written.statements)
             left = [order for order in range(len(written.parameters) + len(self.known.get(key, {}))) if order not in self.known.get(key, {})]
+            mine = dict[int, c.Expression]()
             for order, parameter, *values in zip(left, written.parameters, *calls.get(written.name, ())):
-                is_one = values and all(map(is_known if self.fixed else is_constant, values))
+                is_one = values and all(map(is_known_or_number if self.fixed else is_constant, values))
                 if is_one and len(set(map(c.text, values))) == 1 and facts.is_fixed(parameter):
-                    found.setdefault(key, {})[order] = values[0]
+                    mine[order] = values[0]
+            # With a number that is known a function is another one, unless it then has no parameter at all.
+            is_all = len(mine) == len(written.parameters)
+            if mine := {order: value for order, value in mine.items() if is_all or is_known(value)}:
+                found[key] = mine
         return found
 
     def told_of(self, known: Known, parameters: list[c.Variable]) -> list[str]:
         """What a comment says of parameters that are left out."""
         out = [""] if known else []
         for order, value in known.items():
+            if isinstance(value, c.Literal):
+                continue
             # Of a struct that is made of constants the last one says what it is.
             *_, word = [value] if isinstance(value, c.Word) else constants_in(value)
             kind = word.of.name if isinstance(word.of, c.Named) else ""
@@ -450,7 +586,7 @@ class Library:
                 return one
             found = True
             for order, value in known.items():
-                if not is_known(one.arguments[order]) or c.text(one.arguments[order]) != c.text(value):
+                if not is_known_or_number(one.arguments[order]) or c.text(one.arguments[order]) != c.text(value):
                     raise Unknown(f"a call of {one.name} without {c.text(value)}")
             left = [order for order in range(len(one.arguments)) if order not in known]
             arguments = [one.arguments[order] for order in left]
@@ -469,6 +605,11 @@ class Library:
         return self.names.get(key) or self.plain_name_of(key)
 
     def plain_name_of(self, key: Key) -> str:
+        name = self.name_by_place(key)
+        return called.FUNCTIONS.get(name, name) if not self.exports else name
+
+    def name_by_place(self, key: Key) -> str:
+        """A name by where a function is in the source."""
         path = key[0].split("::")
         name = snake(path[-1].replace("+", "_"))
         of = self.name_of_type(path[0], path[-2]) if path[-2][:1].isupper() else ""
@@ -519,7 +660,7 @@ class Library:
 
     # What bodies ask for.
 
-    def call(self, key: Key, arguments: list[InC], body: Body) -> c.CallOf:
+    def call(self, key: Key, arguments: list[InC], body: Body) -> c.Expression:
         if key[0] not in self.forest.program.functions:
             raise Unknown(f"no function {key[0]}")
         written = self.function(key)
@@ -532,13 +673,15 @@ class Library:
             body.join(value, c.Var(parameter), "=")
             if isinstance(value, c.Literal):
                 given[order] = self.with_names(value, parameter.meaning)
-        return c.CallOf(written.name, given, written.result, expects=tuple(one.of for one in written.given))
+        if written.name in self.inlined and not any(isinstance(part, c.CallOf) for one in given for part in c.every(one)):
+            return with_arguments(*self.inlined[written.name], given)
+        return c.CallOf(written.name, given, written.whole, expects=tuple(one.of for one in written.given))
 
     def with_register(self, one: c.Expression) -> c.Expression:
         """A call with the name of a register in place of its offset."""
         if isinstance(one, c.CallOf) and len(one.arguments) > 1 and isinstance(one.arguments[1], c.Literal) and one.name in OFFSETS:
             offset = self.register(one.arguments[1], OFFSETS[one.name])
-            return c.CallOf(one.name, [one.arguments[0], offset, *one.arguments[2:]], one.of, one.is_pure, one.expects, one.fields)
+            return dataclasses.replace(one, arguments=[one.arguments[0], offset, *one.arguments[2:]])
         return one
 
     def is_large(self, of: c.Type) -> bool:
@@ -576,8 +719,114 @@ class Library:
             ):
                 one.value = c.Literal(one.value.value, one.value.of, (self.returned[one.value.value],))
 
+    def number_of(self, of: Type, tag: int, parts: Sequence[c.Expression]) -> c.Expression:
+        """The number of a variant: that of an error which is in it, if there is one."""
+        told = self.types.told_of(of)
+        numbers = told.numbers.get(self.types.variants(of)[tag][0]) if told else None
+        if not isinstance(numbers, Mapping):
+            return c.Word(self.types.constant(of, tag), self.types.c(of))
+        inner = self.types.variants(of)[tag][2][0]
+        found = {self.types.constant(inner, order): numbers[name] for order, (name, _, _) in enumerate(self.types.variants(inner))}
+        if all(one == other for one, other in found.items()):
+            return parts[0]
+        name = f"uart_{self.types.bare_name(of)}_of"
+        if len(set(found.values())) == 1:
+            return c.Word(next(iter(found.values())), INT)
+        if len(found) > 2:
+            raise Unknown(f"an error in {of[1]} with more than two variants")
+        (one, its), (_, last) = found.items()
+        self.helpers[name] = (
+            f"/* The number of an error that is in another one. */\nstatic inline int {name}(int error)\n{{\n"
+            f"    return error == {one} ? {its} : {last};\n}}\n"
+        )
+        return c.CallOf(name, [parts[0]], INT, True, (INT,))
+
+    def name_offsets(self, written: Written) -> None:
+        """Names the registers with which an offset is compared."""
+        table = WRITTEN if any(one.name == "value" for one in written.parameters) else READ
+
+        def change(one: c.Expression) -> c.Expression:
+            if not (isinstance(one, c.Binary) and one.operator in ("==", "!=") and isinstance(one.left, c.Var) and isinstance(one.right, c.Literal)):
+                return one
+            is_offset = one.left.variable.name == "offset"
+            return dataclasses.replace(one, right=self.register(one.right, table)) if is_offset else one
+
+        passes.on_expressions(written.statements, change)
+
+    def name_numbers(self, written: Written, key: Key, info: Function | None) -> None:
+        """Names the bits that a register is tested for, and the numbers that the source has a name for where the function is."""
+        crate, found, shown = key[0].split("::")[0], dict[int, list[str]](), dict[str, str]()
+
+        def note(its: str, name: str, number: int, module: str) -> str:
+            known = self.number_name(name, module)
+            shown[known] = f"{number:#04x}" if (its, name) in self.source.of_bits else str(number)
+            return known
+
+        for name in info.constants if info else ():
+            its = crate if (crate, name) in self.source.constants else "uart_spec"
+            value = self.source.constants.get((its, name))
+            if value and not (value[1] == "offsets" or value[0] > 0x7FFF):
+                found.setdefault(value[0], []).append(note(its, name, *value))
+        for (its, name), (number, module) in self.source.constants.items():
+            # What is in the place of its call names what is near.
+            if info and its == crate and module == info.module and 1 < number <= 0x7FFF and number not in found:
+                found[number] = [note(its, name, number, module)]
+        known = {number: names[0] for number, names in found.items() if len(names) == 1}
+
+        def named(one: c.Expression) -> c.Expression:
+            if not isinstance(one, c.Literal) or one.names or one.is_bits or one.value not in known:
+                return one
+            self.numbers[known[one.value]] = shown[known[one.value]]
+            return dataclasses.replace(one, names=(known[one.value],))
+
+        def change(one: c.Expression) -> c.Expression:
+            if isinstance(one, c.Binary) and one.operator in BESIDE_NUMBERS:
+                one = dataclasses.replace(one, left=named(one.left), right=named(one.right))
+                return self.with_bits(one)
+            if isinstance(one, c.Unary) and one.operator == "~":
+                return dataclasses.replace(one, operand=as_bits(named(one.operand)))
+            if isinstance(one, c.CallOf):
+                return dataclasses.replace(one, arguments=list(map(named, one.arguments)))
+            return dataclasses.replace(one, yes=named(one.yes), no=named(one.no)) if isinstance(one, c.Choice) else one
+
+        passes.on_expressions(written.statements, change)
+        is_code, is_text = key[0].endswith("::to_raw_bits"), info is not None and info.module == "tty"
+        if is_text:
+            passes.on_expressions(written.statements, with_characters)
+        for one in c.all_statements(written.statements):
+            if is_code and isinstance(one, c.Return) and isinstance(one.value, c.Literal):
+                one.value = dataclasses.replace(one.value, is_bits=True)
+            if is_text and isinstance(one, c.Switch) and on_byte(one.on):
+                one.cases = [(labels and [*map(as_character, labels)], body) for labels, body in one.cases]
+            if isinstance(one, c.Switch):
+                is_masked = isinstance(one.on, c.Binary) and one.on.operator == "&"
+                one.cases = [(labels and [as_bits(named(each)) if is_masked else named(each) for each in labels], body) for labels, body in one.cases]
+            elif isinstance(one, (c.Return, c.Set)) and one.value is not None:
+                one.value = named(one.value)
+            elif isinstance(one, c.For) and isinstance(one.condition, c.Binary):
+                one.condition = dataclasses.replace(one.condition, right=named(one.condition.right))
+
+    def number_name(self, name: str, module: str) -> str:
+        return f"UART_{module.upper()}_{name}" if name in READ.values() or name in WRITTEN.values() or name == "NONE" else f"UART_{name}"
+
+    def with_bits(self, one: c.Binary) -> c.Expression:
+        """A test of a register, with the names of its bits, or of those that stay. Bits without a name are written as such."""
+        if not isinstance(one.right, c.Literal) or one.right.names or one.operator not in ("&", "|", "^", "==", "!="):
+            return one
+        left = one.left.left if one.operator in ("==", "!=") and isinstance(one.left, c.Binary) and one.left.operator == "&" else one.left
+        if left is one.left and one.operator in ("==", "!="):
+            return one
+        register = REGISTERS.match(left.variable.name or "") if isinstance(left, c.Var) else None
+        of = ("Named", f"uart_spec::{register[1].upper()}", ()) if register else None
+        for value in (one.right.value, 255 ^ one.right.value):
+            literal = self.with_names(c.Literal(value, one.right.of), of)
+            if literal.names and (value == one.right.value or one.operator == "&"):
+                right = literal if value == one.right.value else c.Cast(c.BYTE, c.Unary("~", literal, c.BYTE))
+                return dataclasses.replace(one, right=right)
+        return dataclasses.replace(one, right=as_bits(one.right))
+
     def helper(self, name: str, arguments: list[c.Expression], of: c.Type) -> c.CallOf:
-        self.helpers.add(name)
+        self.helpers[name] = HELPERS[name]
         return c.CallOf(name, arguments, of)
 
     def move_down(self, items: c.Expression, places: list[c.Expression]) -> c.CallOf:
@@ -603,13 +852,13 @@ class Library:
             return literal
         crate, register = of[1].split("::")[0], of[1].split("::")[-1]
         bits = {name: value for name, value in self.source.bits.get((crate, register), {}).items() if not name.startswith("_") and value}
-        exact = [name for name, value in bits.items() if value == literal.value]
+        exact = [name for name, value in bits.items() if value == literal.value] or field_of(bits, literal.value)
         single = [name for name, value in bits.items() if value & (value - 1) == 0 and value & literal.value]
         names = exact[:1] or (single if sum(bits[name] for name in single) == literal.value and len(single) <= 4 else [])
-        if not names or sum(bits[name] for name in names) != literal.value:
-            return literal
+        if not names or exact == [] and sum(bits[name] for name in names) != literal.value:
+            return dataclasses.replace(literal, is_of_register=bool(bits))
         for name in names:
-            self.bits[f"{self.prefix}_{register}_{name}"] = bits[name]
+            self.bits[f"{self.prefix}_{register}_{name}"] = bits.get(name, literal.value)
         return c.Literal(literal.value, literal.of, tuple(f"{self.prefix}_{register}_{name}" for name in names))
 
     def size_of(self, item: c.Type) -> int | None:
@@ -638,7 +887,7 @@ class Library:
         if key not in self.statics:
             base = safe(snake(function.split("::")[-1]))
             count = sum(name.startswith(f"uart_{base}_bytes") for name in self.statics.values())
-            self.statics[key] = f"uart_{base}_bytes{count + 1 if count else ''}"
+            self.statics[key] = called.ARRAYS.get(bytes(key)) or f"uart_{base}_bytes{count + 1 if count else ''}"
         return c.Word(self.statics[key], c.Pointer(c.BYTE, True))
 
     def all_bits(self, key: Key) -> int:
@@ -654,31 +903,31 @@ class Library:
     # Structs.
 
     def made(self, of: Type, tag: int | str | None, fields: Sequence[tuple[str, c.Expression]]) -> c.CallOf:
-        """A call of the function that makes a struct of these parts."""
+        """A struct of these parts, as a call of a function that would make it."""
         if of[0] == "Named" and of[1] == "core::ops::ControlFlow":
             raise Unknown("a ControlFlow that is made")
         kind, name = self.types.kind(of), self.types.plain_name(of)
         made = self.types.c(of)
         variable = [(field, value) for field, value in fields if not isinstance(value, c.Word)]
-        fixed = {field: value.name for field, value in fields if isinstance(value, c.Word)}
-        maker = self.maker_name(of, kind, tag, name)
-        if (maker, tuple(sorted(fixed.items()))) not in self.makers and any(key[0] == maker for key in self.makers):
-            # The same variant with another constant in it: it becomes a parameter.
-            number = sum(key[0].startswith(maker) for key in self.makers)
-            maker = f"{maker}_{number + 1}"
-        key = (maker, tuple(sorted(fixed.items())))
-        expects = tuple(value.of for _, value in variable)
-        if key not in self.makers:
-            self.makers[key] = self.maker_text(maker, of, made, variable, fixed)
         types = self.types_of_members(of)
         return c.CallOf(
-            maker,
+            self.maker_name(of, kind, tag, name),
             [value for _, value in variable],
             made,
             True,
-            tuple(types.get(field, one) for (field, _), one in zip(variable, expects)),
+            tuple(types.get(field, value.of) for field, value in variable),
             {**dict(fields), **{field: order for order, (field, _) in enumerate(variable)}},
+            of,
         )
+
+    def members_of_maker(self, maker: c.CallOf) -> list[tuple[str, c.Expression]]:
+        """The members of a struct that is made, each with what it has if nobody gives it a value."""
+        types = self.types_of_members(maker.meaning)
+        return [(name, c.Word(self.zero(inner), types[name])) for name, inner in self.members(maker.meaning)]
+
+    def name_of_struct(self, maker: c.CallOf) -> str:
+        """What a struct is called that is made within a statement."""
+        return re.sub(r"^(maybe_)", "", self.types.bare_name(maker.meaning))
 
     def maker_name(self, of: Type, kind: Kind, tag: int | str | None, name: str) -> str:
         bare = re.sub(r"^(uart|u16550_core|u16550)_", "", name)
@@ -708,7 +957,7 @@ class Library:
                 (self.types.part_name(of, tag, order), one)
                 for tag, (_, _, part) in enumerate(self.types.variants(of))
                 for order, one in enumerate(part)
-                if not self.types.is_unit(one)
+                if self.types.is_part(of, tag, one)
             ]
         if kind.kind == "slice":
             return [("data", kind.value), ("len", ("Int", 64))]
@@ -751,21 +1000,6 @@ class Library:
             return NO_DEVICE
         return "{ " + ", ".join(self.zero(inner) for _, inner in self.members(of)) + " }"
 
-    def maker_text(self, maker: str, of: Type, made: c.Type, variable: Sequence[tuple[str, c.Expression]], fixed: dict[str, str]) -> str:
-        types = self.types_of_members(of)
-        given = [(safe(field), types[field]) for field, _ in variable]
-        values = []
-        for name, inner in self.members(of):
-            if name in fixed:
-                values.append(fixed[name])
-            elif any(field == name for field, _ in variable):
-                values.append(safe(name))
-            else:
-                values.append(self.zero(inner))
-        first = top("static inline", made, maker, [c.declared(one, name) for name, one in given])
-        second = c.wrapped(f"    {c.declared(made, 'made')} = {{ {', '.join(values)} }};")
-        return "\n".join([*first, "{", *second, "    return made;", "}", ""])
-
     def slice_of(self, pair: Pair[c.Expression]) -> c.CallOf:
         """A slice as the struct of C."""
         inner = pair.pointer.of
@@ -792,7 +1026,10 @@ class Library:
     def called(self) -> list[Written]:
         """The functions without those whose calls have gone on the way."""
         in_loops, out, text = self.called_in_loops(), list[Written](), "" if self.exports else None
+        calls = {part.name for one in self.order for part in c.all_parts(one.statements) if isinstance(part, c.CallOf)}
         for one in reversed(self.order):
+            if one.name in self.inlined and one.name not in calls:
+                continue
             if text is None or one.is_public or re.search(rf"\b{one.name}\(", text):
                 out.insert(0, one)
                 text = None if text is None else text + one.text(in_loops, self.short, self.apart, self.words)
@@ -804,21 +1041,55 @@ class Library:
 
     def text(self) -> str:
         """The functions with what they need, without what the header has."""
-        out = [HELPERS[name] for name in sorted(self.helpers)]
-        for values, name in self.statics.items():
-            shown = ", ".join(map(str, values))
-            out.append("\n".join(c.wrapped(f"static const uint8_t {name}[{len(values)}] = {{ {shown} }};")) + "\n")
         in_loops = self.called_in_loops()
         functions = "\n".join(one.text(in_loops, self.short, self.apart, self.words) for one in self.called())
+        out = [text for name, text in sorted(self.helpers.items()) if f"{name}(" in functions]
+        for values, name in self.statics.items():
+            is_text = all(one in CHARACTERS for one in values[:-1])
+            shown = ", ".join(character(one) if is_text else str(one) for one in values)
+            out.append("\n".join(c.wrapped(f"static const uint8_t {name}[{len(values)}] = {{ {shown} }};")) + "\n")
         out += [text for name, text in sorted(self.movers.items()) if f"{name}(" in functions]
-        # What was made on the way and is gone again has left makers that nobody calls.
-        makers, called = list[str](), functions
-        for text in reversed(list(self.makers.values())):
-            name = sought(r"\b(uart_\w+)\(", text)[1]
-            if re.search(rf"\b{name}\(", called):
-                makers.insert(0, text)
-                called += text
-        return "\n".join([*out, *makers, functions])
+        return "\n".join([*out, functions])
+
+
+def field_of(bits: Mapping[str, int], value: int) -> list[str]:
+    """The name of a field of a register, of which each bit has a name that ends with its number there."""
+    fields = dict[str, int]()
+    for name, bit in bits.items():
+        if name[-1].isdigit() and bit & (bit - 1) == 0:
+            field = name.rstrip("0123456789").rstrip("_")
+            fields[field] = fields.get(field, 0) | bit
+    return [name for name, joined in fields.items() if joined == value and joined & (joined - 1)]
+
+
+def has_latch_bit(one: c.Expression) -> bool:
+    """Whether a value that is written has DLAB set."""
+    if isinstance(one, c.Binary) and one.operator == "|":
+        return has_latch_bit(one.left) or has_latch_bit(one.right)
+    return isinstance(one, c.Literal) and any(name.endswith("_LCR_DLAB") for name in one.names)
+
+
+def on_byte(one: c.Expression) -> bool:
+    """Whether this is a byte of a text."""
+    return isinstance(one, c.Var) and one.of.text() == "uint8_t"
+
+
+def with_characters(one: c.Expression) -> c.Expression:
+    """A comparison of a byte of a text with a character."""
+    is_test = isinstance(one, c.Binary) and one.operator in c.COMPARISONS and on_byte(one.left)
+    return dataclasses.replace(one, right=as_character(one.right)) if isinstance(one, c.Binary) and is_test else one
+
+
+def as_character(one: c.Expression) -> c.Expression:
+    """A number as the character that it is."""
+    if not isinstance(one, c.Literal) or one.names:
+        return one
+    return dataclasses.replace(one, names=(CHARACTERS[one.value],)) if one.value in CHARACTERS else as_bits(one)
+
+
+def character(value: int) -> str:
+    """A byte as the character that it is."""
+    return CHARACTERS.get(value, str(value))
 
 
 def table_of_bits(statics: list[Node]) -> int:
@@ -848,29 +1119,72 @@ def table_of_bits(statics: list[Node]) -> int:
 # Names of variables.
 
 
-def name_variables(body: Body, written: Written) -> None:
-    """The names of the source for the locals, in order; else one that says what it is."""
+def note_names(body: Body, parameters: Sequence[c.Variable]) -> None:
+    """Notes which variables the source has a name for."""
+    names = names_by_order(body)
+    for variable in parameters:
+        variable.is_named = True
+    for one in c.all_statements(body.statements):
+        if isinstance(one, c.Set) and isinstance(one.to, c.Var):
+            variable = one.to.variable
+            origin = body.tree.origin[variable.local] if 0 <= variable.local < len(body.tree.origin) else None
+            variable.is_named = variable.is_named or origin in names and variable.hint != "len"
+
+
+def name_variables(body: Body, written: Written, parameters_of: Callable[[str], list[str]]) -> None:
+    """The names of the source for the locals, in order; else one that says what it is. Where no statement has both, two have one name."""
     taken = {one.name for one in written.parameters}
     names = names_by_order(body)
     unnamed = [part.variable for part in c.all_parts(written.statements) if isinstance(part, c.Var) and part.variable.name is None]
-    hints = hints_of_calls(written.statements)
-    for variable in dict.fromkeys(unnamed):
+    hints = Hints(written.statements, parameters_of)
+    homes = dict[str, list[tuple[int, ...]]]()
+    for variable in sorted(dict.fromkeys(unnamed), key=lambda one: not one.is_named):
         origin = body.tree.origin[variable.local] if 0 <= variable.local < len(body.tree.origin) else None
         base = names.get(origin) if origin is not None else None
         if base and variable.hint == "len":
             base += "_len"
-        base = base or hints.get(variable) or variable.hint or by_type(body, variable)
-        base = safe(re.sub(r"\W", "_", base))
-        name, count = base, 1
-        while name in taken:
+        home = home_of(written.statements, variable)
+        found = [base] if base else [*hints.of(variable), variable.hint or by_type(body, variable)]
+        words = [safe(re.sub(r"\W", "_", one)) for one in found]
+        free = [one for one in words if one not in taken and not any(is_within(home, other) for other in homes.get(one, ()))]
+        name, count = free[0] if free else words[0], 1
+        if name in {one.name for one in written.pointers}:
+            name = words[0] = f"found_{name}"
+        while name in taken or any(is_within(home, other) for other in homes.get(name, ())):
             count += 1
-            name = f"{base}{count}"
-        taken.add(name)
-        variable.name = name
+            name = f"{words[0]}{count}"
+        variable.name = called.VARIABLES.get((written.name, name), name)
+        for one in {name, variable.name}:
+            homes.setdefault(one, []).append(home)
+
+
+def home_of(statements: list[c.Statement], variable: c.Variable, path: tuple[int, ...] = ()) -> tuple[int, ...]:
+    """Where a variable is declared: the lists that lead there, by what they are known by."""
+    has = [one for one in statements if passes.mentions([one], variable)]
+    path = (*path, id(statements))
+    if len(has) == 1:
+        if isinstance(has[0], c.For) and passes.uses(has[0].first, variable):
+            return (*path, id(has[0]))
+        inner = [body for body in c.lists(has[0]) if passes.mentions(body, variable)]
+        if len(inner) == 1 and not passes.uses(has[0], variable):
+            return home_of(inner[0], variable, (*path, id(has[0])))
+    return path
+
+
+def is_within(one: tuple[int, ...], other: tuple[int, ...]) -> bool:
+    """Whether one of two places is in the other."""
+    return all(mine == its for mine, its in zip(one, other))
 
 
 def names_by_order(body: Body) -> dict[int, str]:
     out, at = {}, body.tree.params + 1
+    for one in body.tree.body:
+        # A parameter that is lent has a place of its own, which comes before all that is bound.
+        if not (isinstance(one, Assign) and one.place == Place(at) and isinstance(one.value, Place) and not one.value.steps):
+            break
+        if not 0 < one.value.local <= body.tree.params:
+            break
+        at += 1
     for name in body.information.bindings if body.information else []:
         while at < body.tree.own and is_hidden(body, body.tree.locals[at], name):
             at += 1
@@ -891,14 +1205,82 @@ def is_hidden(body: Body, of: Type, name: str) -> bool:
     return bool(of == "Unit" or is_residual or of[0] == "Ref" and of[1][0] == "Array")
 
 
-def hints_of_calls(statements: list[c.Statement]) -> dict[c.Variable, str]:
-    out = dict[c.Variable, str]()
-    for one in c.all_statements(statements):
-        if isinstance(one, c.Set) and isinstance(one.to, c.Var) and isinstance(one.value, c.CallOf) and isinstance(one.to.of, c.Number):
-            name = re.sub(r"^uart_(ring_)?", "", one.value.name)
-            name = re.sub(r"^(read|try|get|calc|take)_|_(32|64)$", "", name)
-            out.setdefault(one.to.variable, {"device_read": "value"}.get(name, name))
-    return out
+class Hints:
+    """What variables may be called: what their value is a member of, or what computes it; and what they become."""
+
+    def __init__(self, statements: list[c.Statement], parameters_of: Callable[[str], list[str]]) -> None:
+        self.found = dict[c.Variable, list[str]]()
+        for one in c.all_statements(statements):
+            if isinstance(one, c.Set) and isinstance(one.to, c.Var) and isinstance(one.to.of, (c.Number, c.Named)):
+                for name in of_value(one.value):
+                    self.note(one.to.variable, name)
+        for one in c.all_statements(statements):
+            if isinstance(one, c.Set) and isinstance(one.to, c.Field) and isinstance(one.value, c.Var):
+                self.note(one.value.variable, one.to.name if one.to.name not in GENERAL else None)
+        for part in c.all_parts(statements):
+            if isinstance(part, c.CallOf):
+                for argument, name in zip(part.arguments, parameters_of(part.name)):
+                    if isinstance(argument, c.Var) and isinstance(argument.of, c.Number):
+                        self.note(argument.variable, name if name not in GENERAL else None)
+
+    def note(self, variable: c.Variable, name: str | None) -> None:
+        if name:
+            self.found.setdefault(variable, []).append(name)
+
+    def of(self, variable: c.Variable) -> list[str]:
+        return self.found.get(variable, [])
+
+
+# Names that say nothing of what has them.
+GENERAL = {
+    "value",
+    "number",
+    "bits",
+    "one",
+    "other",
+    "dividend",
+    "divisor",
+    "second",
+    "first",
+    "is_some",
+    "on",
+    "word_length",
+    "slots",
+    "per",
+    "times",
+}
+
+
+def of_value(value: c.Expression) -> list[str]:
+    """What a variable may be called that has this value."""
+    if isinstance(value, c.Field) and value.name == "is_some":
+        inner = value.base
+        return [f"has_{inner.name}"] if isinstance(inner, c.Field) else []
+    if isinstance(value, c.Field) and isinstance(value.of, (c.Number, c.Named)):
+        # What a member was, before it is changed.
+        of_base = [value.base.name] if isinstance(value.base, c.Field) and value.name == "len" else []
+        return [{"second": "number", "value": "number"}.get(value.name, value.name), *of_base]
+    if isinstance(value, c.Binary) and value.operator in ("!=", "==") and isinstance(value.left, c.Binary) and value.left.operator == "&":
+        mask = value.left.right
+        return [mask.names[0].rsplit("_", 1)[-1].lower()] if isinstance(mask, c.Literal) and len(mask.names) == 1 else []
+    if isinstance(value, c.Choice) and isinstance(value.condition, c.Binary) and value.condition.operator in ("<", "<="):
+        # The smaller one of two sizes.
+        is_least = readable.same(value.condition.left, value.yes) and readable.same(value.condition.right, value.no)
+        return ["count", "some"] if is_least and value.of.text() == "size_t" else []
+    if isinstance(value, c.CallOf) and isinstance(value.of, c.Number):
+        name = re.sub(r"^uart_(ring_)?", "", value.name)
+        if found := re.match(r"(ier|isr|fcr|lcr|mcr|lsr|msr)_(set|with|of)_", name):
+            return [found[1]]
+        name = re.sub(r"^(read|try|get|calc|take)_|_(32|64)$", "", name)
+        return [{"device_read": "value"}.get(name, name)]
+    return []
+
+
+def name_of_choice(one: c.Choice) -> str:
+    """What one value or another is called."""
+    base = one.condition.base if isinstance(one.condition, c.Field) else None
+    name = base.name if isinstance(base, c.Field) else base.variable.name or base.variable.hint if isinstance(base, c.Var) else None
+    return called.CHOSEN.get(name or "", "chosen")
 
 
 def by_type(body: Body, variable: c.Variable) -> str:

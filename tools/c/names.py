@@ -14,6 +14,19 @@ Definition: TypeAlias = tuple[str, str, str]
 # What has a name in a crate.
 Named: TypeAlias = tuple[str, str]
 OPENING = {"(": ")", "{": "}", "[": "]"}
+# Definitions that contracts are built of, of which C says nothing: they say what a call of a driver is, and not which.
+GENERAL = set("IfAny Implies IsOnly IsOnlyIfAny OnDriver OnRings Plain Saving TerminalMade Times".split())
+# What others say, where their own words need what is around them in the contract.
+SAID = {
+    "HasParity": "the field is a code of this parity",
+    "HasTrigger": "the field is the code of this trigger level",
+    "HasWordLength": "the field is the code of this word length",
+    "IsCovering": "value * times / per, rounded up, if that fits into 64 bits",
+    "SameOutside": "no other bit changes",
+    "Sets": "no access is made, and nothing else of the driver changes",
+}
+# The name of what a definition is about, or the names, in front of what it says.
+OF_CALL = re.compile(r"^`\w+`(?:, `\w+`)*(?:: |, (?=with ))")
 
 
 def sought(pattern: str, text: str, flags: re.RegexFlag = re.NOFLAG) -> re.Match[str]:
@@ -89,6 +102,9 @@ class Function:
     uses: dict[str, Definition] = dataclasses.field(default_factory=dict)
     # Whether it is not to stand in the place of its calls.
     is_apart: bool = False
+    # The constants that its body names, and the module that it is in.
+    constants: frozenset[str] = frozenset()
+    module: str = ""
 
     def with_comment(self, other: Function | None) -> Function:
         """The same with the comment of another one, if there is such a one."""
@@ -107,6 +123,10 @@ class Source:
         # By crate and name: of a struct its fields and their types, and of an enum each variant with its parts.
         self.fields, self.types_of_fields = dict[Named, list[str]](), dict[Named, list[str]]()
         self.variants, self.comments = dict[Named, list[tuple[str, list[str]]]](), dict[Named, list[str]]()
+        # The numbers of constants, and the modules that they are in.
+        self.constants = dict[Named, tuple[int, str]]()
+        # Those that the source writes as bits.
+        self.of_bits = set[Named]()
         self.functions, self.bits = dict[tuple[str, str | None, str], Function](), dict[Named, dict[str, int]]()
         # Definitions by their names, and by crate, module and name.
         self.definitions, self.defined = dict[str, str](), dict[Definition, str]()
@@ -141,9 +161,11 @@ class Source:
         """What is proved of a function, in the words of the definitions that its contract cites."""
         out = list[str]()
         for name in function.cited if function else []:
+            if name in GENERAL:
+                continue
             # Two crates may have definitions of one name.
-            said = self.defined_as(function, name) or self.definitions.get(name)
-            words = re.sub(r"^`\w+`: ", "", said or "")
+            said = SAID.get(name) or self.defined_as(function, name) or self.definitions.get(name)
+            words = OF_CALL.sub("", said or "")
             if words and words not in out and words.isascii():
                 out.append(words)
         return out
@@ -155,7 +177,7 @@ class Source:
         for name, clause in function.ensures:
             value = [one for one in re.findall(r"[\w.]+", clause.split("\u2261")[-1]) if not are_plain(function.uses.get(one))]
             words = self.defined_as(function, value[0]) if value and "\u2192" not in clause else None
-            shown: str = re.sub(r"^`\w+`: ", "", words) if words and words.isascii() else in_ascii(clause)
+            shown: str = OF_CALL.sub("", words) if words and words.isascii() else in_ascii(clause)
             out.append((name, shown if name or shown.startswith("result ") else f"the result is {shown}"))
         return out
 
@@ -168,7 +190,7 @@ class Source:
         ]
         for found in re.finditer(r"(?m)^( *)(pub(?:\([a-z]+\))? )?(?:const |extern \"C\" )?fn (\w+)(?:<[^(]*>)?\(", text):
             at, of = next((block for block in reversed(blocks) if block[0] < found.start()), (0, None)) if found[1] else (0, None)
-            function = self.functions[crate, of, found[3]] = self.function(text, found, uses)
+            function = self.functions[crate, of, found[3]] = self.function(text, found, uses, module)
             if of is None:
                 self.functions[crate, f"module {module}", found[3]] = function
             if re.match(r"(pub )?trait", text[at:]):
@@ -179,6 +201,17 @@ class Source:
             value = number(found[3])
             if value is not None:
                 self.bits.setdefault((crate, found[2]), {})[found[1]] = value
+        for found in re.finditer(r"const (\w+): (\w+) = \2\(\s*((?:\2::\w+\.0[\s|,]*){2,})\);", text):
+            bits = self.bits[crate, found[2]]
+            bits[found[1]] = sum(bits[name] for name in set(re.findall(r"::(\w+)\.0", found[3])))
+        for found in re.finditer(r"(?m)^(?:pub(?:\([a-z]+\))? )?const (\w+): (?:u8|u16|u32|u64|usize) = ([^;]*);", text):
+            first, _, more = found[2].partition("+")
+            known = self.constants.get((crate, first.strip())) or self.constants.get(("uart_spec", first.strip()))
+            value = number(first) if known is None else known[0]
+            if value is not None and number(more or "0") is not None:
+                self.constants[crate, found[1]] = value + (number(more or "0") or 0), module
+                if re.match(r"\s*0[xb]", found[2]):
+                    self.of_bits.add((crate, found[1]))
         # A second name of a bit says what we use it for. The first is that of the original crate.
         for found in re.finditer(r"const (\w+): (\w+) = \2\(\2::(\w+)\.0\);", text):
             bits = self.bits[crate, found[2]]
@@ -188,6 +221,7 @@ class Source:
         key, start = (crate, found[2]), found.end() - 1
         self.comments[key] = documentation(text, found.start())
         items = listed(bare(text[start + 1 : closing(text, start)])) if found[3] != ";" else []
+        items = [one for one in items if not one.startswith("ghost ")]
         if found[1] == "struct":
             names = [re.sub(r"^(?:pub(?:\([a-z]+\))?\s+)?(\w+)\s*:.*", r"\1", one, flags=re.S) for one in items]
             self.fields[key] = names if found[3] == "{" else [f"part{order}" for order, _ in enumerate(items)]
@@ -200,7 +234,7 @@ class Source:
             out.append((name[1], [re.sub(r"\s*:.*", "", part, flags=re.S) if name[2] == "{" else "value" for part in inner]))
         self.variants[key] = out
 
-    def function(self, text: str, found: re.Match[str], uses: dict[str, Definition]) -> Function:
+    def function(self, text: str, found: re.Match[str], uses: dict[str, Definition], module: str) -> Function:
         end = closing(text, found.end() - 1)
         opened, in_line = text.find("\n" + found[1] + "{", end), text.find("{", end)
         opened = in_line if "\n" not in text[end:in_line] else opened + 1 + len(found[1])
@@ -221,6 +255,8 @@ class Source:
             ensured(text[end:opened]) if has_body else [],
             uses,
             "#[inline(never)]" in in_front(text, found.start()),
+            frozenset(re.findall(r"(?<![\w:])(?<!\w\.)(?:\w+::)?([A-Z][A-Z0-9_]+)\b(?!::)", body)),
+            module,
         )
 
     def find(self, name: str) -> Function | None:

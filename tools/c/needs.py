@@ -24,6 +24,11 @@ def unknown(needed: Iterable[str], named: Iterable[str]) -> list[str]:
     return sorted(one for one in needed if not any(fnmatch.fnmatchcase(one, name) for name in named))
 
 
+def unneeded(needed: Iterable[str], named: Iterable[str]) -> list[str]:
+    """Those names that are on the page and not needed."""
+    return sorted(name for name in named if not fnmatch.filter(needed, name))
+
+
 def of_object(listed: str) -> set[str]:
     """The names that `nm -u` lists."""
     return {line.split()[-1] for line in listed.splitlines()} - OF_LINKERS

@@ -21,6 +21,8 @@ WithNames: TypeAlias = Callable[[c.Literal, Meaning], c.Expression]
 
 # A condition with two short values is written in one line up to this length.
 SHORT = 76
+# So many operators and calls are at most in an expression which has a name in the source, and goes where it is used all the same.
+HEAVY = 3
 
 
 # Blocks and their exits as `if`, `break` and `continue`.
@@ -281,6 +283,11 @@ def simpler(one: c.Expression) -> c.Expression:
             return opposite
     if isinstance(one, c.Binary):
         return simpler_binary(one)
+    if isinstance(one, c.Cast) and isinstance(one.of, c.Number) and one.operand.of.text() == one.of.text() and isinstance(one.operand, c.Var):
+        return one.operand
+    if isinstance(one, c.Cast) and isinstance(one.operand, c.Cast) and isinstance(one.of, c.Number) and isinstance(one.operand.of, c.Number):
+        # What a number has beyond the narrower type goes in any case.
+        return simpler(c.Cast(one.of, one.operand.operand)) if one.of.bits <= one.operand.of.bits else one
     if isinstance(one, c.Cast) and isinstance(one.operand, c.Literal) and isinstance(one.of, c.Number) and one.operand.value < 1 << one.of.bits:
         return c.Literal(one.operand.value, one.of, one.operand.names)
     return one
@@ -306,8 +313,14 @@ def simpler_binary(one: c.Binary) -> c.Expression:
             return c.Word("true" if (left.value == right.value) == (one.operator == "==") else "false", c.BOOL)
     if one.operator in ("<", "<=") and isinstance(left, c.Literal) and isinstance(right, c.Literal):
         return c.Word("true" if left.value < right.value or one.operator == "<=" and left.value == right.value else "false", c.BOOL)
-    if one.operator == "+" and isinstance(right, c.Literal) and right.value == 0:
+    if one.operator in ("+", "|", "<<") and isinstance(right, c.Literal) and right.value == 0:
         return left
+    if one.operator == "<<" and isinstance(left, c.Literal) and left.value == 0:
+        return left
+    if one.operator == "|" and isinstance(left, c.Literal) and left.value == 0:
+        return right
+    if one.operator == "&" and isinstance(left, c.Literal) and isinstance(right, c.Literal):
+        return c.Literal(left.value & right.value, one.of, left.names if left.value & right.value == left.value else ())
     if one.operator == "&&" and isinstance(right, c.Word) and right.name == "true":
         return left
     # The right side is not computed if the left one decides.
@@ -427,6 +440,8 @@ class Facts:
             return self.is_fixed(one.variable)
         if self.is_address(one):
             return True
+        if isinstance(one, c.Cast) and isinstance(one.operand, c.Var) and isinstance(one.of, c.Number) and isinstance(one.operand.of, c.Number):
+            return one.operand.variable.is_parameter and one.operand.variable.is_named and self.is_stable(one.operand)
         variable = root(one)
         return isinstance(one, c.Field) and variable is not None and self.is_fixed(variable)
 
@@ -576,6 +591,13 @@ def only_value(statements: Statements, parameters: Sequence[c.Variable]) -> c.Ex
     return value if len(read) == len(parameters) and all(one in read for one in parameters) else None
 
 
+def inner_value(statements: Statements) -> c.Expression | None:
+    """The value that a function returns if it does nothing else and calls nothing, or None."""
+    value = statements[0].value if len(statements) == 1 and isinstance(statements[0], c.Return) else None
+    is_computed = value is not None and not any(isinstance(part, (c.CallOf, c.Index)) for part in c.every(value))
+    return value if is_computed else None
+
+
 def without_idle_arrays(statements: Statements) -> None:
     """Without what is written to the cells of arrays that nobody reads, and without copies of arrays that are only read, from structs that
     are only read too."""
@@ -647,6 +669,7 @@ def forward(statements: Statements, with_names: WithNames) -> bool:
                 isinstance(one, c.Set)
                 and isinstance(one.to, c.Var)
                 and can_go(facts, one.to.variable)
+                and not (one.to.variable.is_named and is_heavy(one.value))
                 and moves(facts, one.to.variable, one.value, body[order + 1 :], with_names)
             ):
                 del body[order]
@@ -659,6 +682,11 @@ def every_list(statements: Statements) -> Iterator[Statements]:
     for one in statements:
         for body in c.lists(one):
             yield from every_list(body)
+
+
+def is_heavy(one: c.Expression) -> bool:
+    """Whether an expression computes so much that the name which the source has for it tells more than its place."""
+    return sum(isinstance(part, (c.Binary, c.Choice, c.CallOf)) for part in c.every(one)) > HEAVY
 
 
 def can_go(facts: Facts, variable: c.Variable) -> bool:
@@ -799,6 +827,25 @@ def keeps(facts: Facts, behind: Statements, variable: c.Variable, place: c.Index
         if any(isinstance(each, c.Set) and root(each.to) in variables for each in c.all_statements([one])):
             return count == facts.reads.get(variable) and not used
     return count == facts.reads.get(variable)
+
+
+def forward_copies(statements: Statements) -> bool:
+    """Puts a variable in the place of a copy of it that only the next statement uses. Returns whether there was one."""
+    facts = Facts(statements)
+    for body in every_list(statements):
+        for order, (one, behind) in enumerate(zip(body, body[1:])):
+            if not (isinstance(one, c.Set) and isinstance(one.to, c.Var) and isinstance(one.value, c.Var) and isinstance(behind, (c.Set, c.Return))):
+                continue
+            copy, origin = one.to.variable, one.value
+            is_only = sum(is_of(part, copy) for part in c.all_parts([behind])) == facts.reads.get(copy)
+            is_target = isinstance(behind, c.Set) and root(behind.to) is copy
+            has_call = any(isinstance(part, c.CallOf) and not part.is_pure for part in c.all_parts([behind]))
+            if copy.is_parameter or not facts.is_fixed(copy) or not is_only or is_target or has_call and origin.variable in facts.taken:
+                continue
+            on_expressions([behind], lambda part: origin if is_of(part, copy) else part)
+            del body[order]
+            return True
+    return False
 
 
 # Values that memory has, where they are used.
@@ -1054,6 +1101,11 @@ def mentions(statements: Statements, variable: c.Variable) -> bool:
     return any(is_of(part, variable) for part in c.all_parts(statements))
 
 
+def mentioned(statements: Statements, variable: c.Variable) -> int:
+    """How often a variable is named."""
+    return sum(is_of(part, variable) for part in c.all_parts(statements))
+
+
 def continues(statements: Statements) -> bool:
     for one in statements:
         if isinstance(one, c.Continue):
@@ -1082,7 +1134,7 @@ def settle(statements: Statements, result: c.Type) -> None:
                 return compared_widely(c.Binary(one.operator, fit(one.left, sized), fit(one.right, sized), one.of))
         if isinstance(one, c.CallOf) and one.expects:
             fitted = [fit(argument, to) for argument, to in zip(one.arguments, one.expects)]
-            return c.CallOf(one.name, fitted, one.of, one.is_pure, one.expects, one.fields)
+            return dataclasses.replace(one, arguments=fitted)
         if isinstance(one, c.Index):
             return c.Index(one.pointer, fit(one.index, c.Number(64, c.SIZE)))
         return one
@@ -1186,6 +1238,7 @@ def refined(statements: Statements, with_names: WithNames) -> Statements:
         changed = propagate(statements, with_names)
         changed = remove_dead(statements) or changed
         changed = forward_addresses(statements) or changed
+        changed = forward_copies(statements) or changed
         while forward(statements, with_names):
             changed = True
         made = pretty(statements)

@@ -3,9 +3,10 @@ from __future__ import annotations
 
 import dataclasses
 import re
-import textwrap
-from collections.abc import Sequence
+from collections.abc import Mapping, Sequence
 
+import called
+from comments import Words, filled
 from names import snake
 import syntax
 from names import Source
@@ -13,20 +14,40 @@ from syntax import BOOL, BYTE, SIZE, VOID, Code, Named, Number, Pointer, Width, 
 from translate import Type, Unknown, head
 from tree import DEVICE, MEMORY, PATIENCE, PORTS, Forest
 
+# What is a pair in the source: its name, and those of its members.
+PAIRS = {"uart_pair_of_u8": ("uart_latch", ["dll", "dlm"]), "uart_pair_of_slice": ("uart_slices", ["front", "rest"])}
 RESERVED = set(
     "char int short long switch default case break register if else for while do return signed unsigned float double const static "
     "auto union struct enum void bool true false class new delete this private public template typename".split()
 )
 OF_CALLER_TYPES = {DEVICE: "struct u16550_device", PATIENCE: "struct uart_patience", PORTS: "struct uart_line_ports", MEMORY: "struct uart_memory *"}
+# The type of the numbers of errors.
+INT = Named("int")
 NO_DEVICE = "{ { NULL, NULL, NULL }, 0, 0 }"
 VECTOR = "std_alloc::vec::Vec"
 OPTION, RESULT = "core::option::Option", "core::result::Result"
 # A struct of more parts than this is made part by part, and one of fewer by a function.
 FEW = 3
+# A comment of one line has fewer letters.
+SHORT = 90
 
 
 def is_closure(of: Type) -> bool:
     return isinstance(of, tuple) and of[0] == "Named" and of[1].endswith("+Self")
+
+
+@dataclasses.dataclass(frozen=True)
+class Told:
+    """An enum of the source that a program knows: its type in C, and the number of each variant by its name. A variant with another such enum in
+    it has the numbers of that one's variants, by their names."""
+
+    of: syntax.Named
+    numbers: Mapping[str, str | Mapping[str, str]]
+    # Whether the parts of its variants are kept beside the number, in a struct. Else nobody reads them.
+    is_kept: bool = False
+    # Of an error whose parts a function writes through a pointer: the type of C behind that, its name, and the member that a part of a variant
+    # is there, by the names of both; no name, if the pointer is to the part itself.
+    details: tuple[str, str, Mapping[tuple[str, str], str]] | None = None
 
 
 @dataclasses.dataclass(frozen=True)
@@ -54,8 +75,12 @@ class Representation:
         self.forest, self.source, self.public = forest, source, public
         self.kinds, self.names, self.declarations = dict[Type, Kind](), dict[str, str](), list[tuple[str, str]]()
         self.in_header = set[Type]()
-        # The enums of which nobody reads more than which variant one is: in C they are plain.
-        self.bare = set[str]()
+        # The enums that a program knows, and the numbers that it knows for errors of one kind, by their names in the source.
+        self.told, self.failures, self.silent = dict[str, Told](), dict[str, str](), set[str]()
+        # The calls of the header, without what their names begin with.
+        self.calls = frozenset[str]()
+        # The number of no error.
+        self.ok = "U16550_OK"
 
     def put_into_header(self, of: Type) -> None:
         """The names of this type, and of all that it is made of, begin as those of the header do."""
@@ -122,7 +147,8 @@ class Representation:
         if name.endswith("ErrResidual"):
             return Kind("wrapper", parts[0][0])
         if shape == "Variants":
-            is_plain = name in self.bare or all(self.is_unit(one) for part in parts for one in part)
+            told = self.told_of(of)
+            is_plain = not (told.is_kept or told.details) if told else all(self.is_unit(one) for part in parts for one in part)
             return Kind("enum") if is_plain else Kind("tagged")
         full = [order for order, one in enumerate(parts[0]) if not self.is_unit(one)]
         if not full:
@@ -154,6 +180,21 @@ class Representation:
         if first[1].endswith("NoValue"):
             return ("Named", RESULT, (value, "Unit"))
         return ("Named", RESULT, (value, first[2][0]))
+
+    def told_of(self, of: Type) -> Told | None:
+        """What a program knows of an enum."""
+        return self.told.get(of[1].split("::")[-1]) if of[0] == "Named" else None
+
+    def failure(self, of: Type) -> str:
+        """The number of an error of one kind."""
+        name = of[1].split("::")[-1]
+        if name not in self.failures:
+            raise Unknown(f"the error {name}, which has no number")
+        return self.failures[name]
+
+    def is_silent(self, of: Type) -> bool:
+        """Whether nobody reads the parts of an error of one kind."""
+        return of[1].split("::")[-1] in self.silent
 
     # Names.
 
@@ -197,7 +238,8 @@ class Representation:
             return "uart_slice_mut" if of[2][0][2] else "uart_slice"
         if of[0] == "Struct":
             names = [self.bare_name(one) for one in of[2]]
-            return f"uart_pair_of_{names[0]}" if len(set(names)) == 1 else "uart_pair_of_" + "_and_".join(names)
+            pair = f"uart_pair_of_{names[0]}" if len(set(names)) == 1 else "uart_pair_of_" + "_and_".join(names)
+            return PAIRS.get(pair, (pair, []))[0]
         kind = self.kind(of)
         if kind.kind == "option":
             return f"uart_maybe_{self.bare_name(kind.value)}"
@@ -208,7 +250,8 @@ class Representation:
         inner = [self.bare_name(one) for one in of[2] if one not in OF_CALLER_TYPES]
         if base == "pair_of" and len(set(inner)) == 1:
             inner = inner[:1]
-        return "_".join(["uart", base, *inner])
+        made = "_".join(["uart", base, *inner])
+        return PAIRS.get(made, (made, []))[0]
 
     def bare_name(self, of: Type) -> str:
         return re.sub(r"^(uart|u16550_core|u16550)_", "", self.plain_name(of))
@@ -224,9 +267,11 @@ class Representation:
     def fields(self, of: Type) -> list[tuple[str, Type]]:
         """Of a struct: the names and types of its parts."""
         parts = self.shape(of)[1][0]
-        names = self.source.fields.get(self.own(of)) if of[0] == "Named" else None
+        names = called.MEMBERS.get(self.own(of)) or self.source.fields.get(self.own(of)) if of[0] == "Named" else None
         if of[0] == "Named" and of[1] == VECTOR:
             names = ["data", "len", "capacity"]
+        if not names:
+            names = next((members for name, members in PAIRS.values() if self.plain_name(of) == name), None)
         if not names or len(names) != len(parts):
             names = [f"part{order}" for order, _ in enumerate(parts)] if len(parts) > 4 else ["first", "second", "third", "fourth"][: len(parts)]
         return list(zip(map(safe, names), parts))
@@ -250,12 +295,30 @@ class Representation:
 
     def constant(self, of: Type, tag: int | None) -> str:
         """The C name of a variant, or of none."""
+        if told := self.told_of(of):
+            number = self.ok if tag is None else told.numbers.get(self.variants(of)[tag][0])
+            if not isinstance(number, str):
+                raise Unknown(f"the variant {tag} of {of[1]}, which has no number of its own")
+            return number
         prefix = self.plain_name(of).upper()
         return f"{prefix}_NONE" if tag is None else f"{prefix}_{snake(self.variants(of)[tag][0]).upper()}"
+
+    def numbers(self, of: Type, tag: int) -> list[str]:
+        """The C names that tell of a variant: more than one, if it has an error in it."""
+        told = self.told_of(of)
+        number = told.numbers.get(self.variants(of)[tag][0]) if told else None
+        return [*number.values()] if isinstance(number, Mapping) else [self.constant(of, tag)]
+
+    def is_part(self, of: Type, tag: int, part: Type) -> bool:
+        """Whether a part of a variant is one of the struct of C: not if it has one value only, or if the number of the variant tells it."""
+        told = self.told_of(of)
+        return not self.is_unit(part) and not (told and isinstance(told.numbers.get(self.variants(of)[tag][0]), Mapping))
 
     def part_name(self, of: Type, tag: int, order: int) -> str:
         """The name of a part of a variant in the struct of C."""
         name, fields, part = self.variants(of)[tag]
+        if (told := self.told_of(of)) and told.details:
+            return told.details[2][name, fields[order]]
         full = [one for one in part if not self.is_unit(one)]
         return safe(snake(name) if len(full) == 1 else f"{snake(name)}_{fields[order]}")
 
@@ -283,11 +346,18 @@ class Representation:
             return self.c(self.same_as(of))
         if word == "device":
             return Named(OF_CALLER_TYPES[of])
+        if told := self.told_of(of) if word in ("enum", "tagged") else None:
+            if word == "enum":
+                return told.of
+            if told.details:
+                return Named(told.details[0])
         name = self.declare(of)
         return Code(name) if word == "enum" and self.is_in_header(of) else Named(name)
 
     def tag(self, of: Type) -> Named:
         """The C type of the number that says which variant an error is."""
+        if told := self.told_of(of):
+            return told.of
         return (Code if self.is_in_header(of) else Named)(f"enum {self.plain_name(of)}_kind")
 
     def is_in_header(self, of: Type) -> bool:
@@ -331,6 +401,8 @@ class Representation:
         return f"{comment}struct {name} {{\n" + "\n".join(self.members(of, name)) + "\n};\n"
 
     def constants(self, of: Type) -> list[str]:
+        if self.told_of(of):
+            return [self.ok if self.is_error(of) else self.constant(of, 0)]
         first = 1 if self.is_error(of) else 0
         none = [f"    {self.constant(of, None)} = 0"] if first else []
         return none + [f"    {self.constant(of, order)} = {order + first}" for order, _ in enumerate(self.variants(of))]
@@ -349,12 +421,13 @@ class Representation:
             return [self.member(of, kind.value, "data"), "    size_t len;"]
         if kind.kind == "tagged":
             tags = self.tag(of)
-            self.declarations.append((f"{name}_kind", f"{tags.name} {{\n" + ",\n".join(self.constants(of)) + "\n};\n"))
+            if not self.told_of(of):
+                self.declarations.append((f"{name}_kind", f"{tags.name} {{\n" + ",\n".join(self.constants(of)) + "\n};\n"))
             inner = [
                 self.member(of, one, self.part_name(of, tag, order))
                 for tag, (_, _, part) in enumerate(self.variants(of))
                 for order, one in enumerate(part)
-                if not self.is_unit(one)
+                if self.is_part(of, tag, one)
             ]
             told = f" /* an {tags.name} */" if isinstance(tags, Code) else ""
             return [f"    {declared(tags, 'kind')};{told}", *inner]
@@ -363,14 +436,15 @@ class Representation:
     def comment(self, of: Type) -> str:
         if of[0] != "Named" or of[1].startswith("core"):
             return ""
-        return comment_of(self.source.comments.get(self.own(of), []))
+        lines = self.source.comments.get(self.own(of), [])
+        return comment_of(Words(of[1].split("::")[0], self.calls, {}).text(lines) if self.calls else lines)
 
 
 def safe(name: str) -> str:
     return name + "_" if name in RESERVED else name
 
 
-def comment_of(lines_of_source: list[str], indent: str = "", proved: Sequence[str] = ()) -> str:
+def comment_of(lines_of_source: list[str], proved: Sequence[str] = ()) -> str:
     """A comment of Rust as one of C: without examples, and without marks of Rust. What is proved comes behind it."""
     out, is_example = [], False
     for one in lines_of_source:
@@ -384,18 +458,19 @@ def comment_of(lines_of_source: list[str], indent: str = "", proved: Sequence[st
         out.pop()
     while out and not out[0].strip():
         out.pop(0)
+    out = filled(out)
     if proved:
         out += ([""] if out else []) + proved_lines(proved)
     if not out:
         return ""
-    if len(out) == 1 and len(out[0]) < 90:
-        return f"{indent}/* {out[0]} */\n"
-    return f"{indent}/*\n" + "".join(f"{indent} * {one}".rstrip() + "\n" for one in out) + f"{indent} */\n"
+    if len(out) == 1 and len(out[0]) < SHORT:
+        return f"/* {out[0]} */\n"
+    return "/*\n" + "".join(f" * {one}".rstrip() + "\n" for one in out) + " */\n"
 
 
 def proved_lines(proved: Sequence[str]) -> list[str]:
     """What is proved, as the lines of a comment."""
-    return [line for one in proved for line in textwrap.wrap(f"Proved: {one.replace('`', '')}.", 90)]
+    return [line for one in proved for line in filled([f"Proved: {one.replace('`', '').rstrip('.')}."])]
 
 
 __all__ = ["SIZE", "Representation", "comment_of", "proved_lines", "safe"]

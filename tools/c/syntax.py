@@ -13,6 +13,7 @@ INDENT = "    "
 LEVELS = {12: "* / %", 11: "+ -", 10: "<< >>", 9: "< <= > >=", 8: "== !=", 7: "&", 6: "^", 5: "|", 4: "&&", 3: "||"}
 PRECEDENCE = {operator: level for level, operators in LEVELS.items() for operator in operators.split()}
 PRIMARY, UNARY, CHOICE = 15, 14, 2
+SWAPPED = {"==": "==", "!=": "!=", "<": ">", "<=": ">=", ">": "<", ">=": "<="}
 OPPOSITE = {"==": "!=", "!=": "==", "<": ">=", "<=": ">", ">": "<=", ">=": "<"}
 COMPARISONS = set(OPPOSITE)
 LOGICAL = {"&&", "||"}
@@ -129,6 +130,7 @@ class Variable:
     local: int = -1
     meaning: Meaning = None  # the type of the MIR
     hint: str | None = None  # a name, if the source has none
+    is_named: bool = False  # whether the source has a name for it
 
     def known_name(self) -> str:
         if self.name is None:
@@ -150,6 +152,8 @@ class Literal:
     value: int
     of: Type
     names: tuple[str, ...] = ()  # of bits or of a register that together are this number
+    is_bits: bool = False  # written as bits are
+    is_of_register: bool = False  # written so too, unless it has a name
 
 
 @dataclasses.dataclass(eq=False)
@@ -216,7 +220,7 @@ class Cast:
 @dataclasses.dataclass(eq=False)
 class CallOf:
     """A call. If it is pure it has no effect and reads nothing but its arguments. `expects` are the types of the parameters, and `fields`
-    says what is in each member of the struct that a maker makes: the number of an argument, or a constant."""
+    says what is in each member of the struct that a maker makes: the number of an argument, or a constant; `meaning` is its type in the source."""
 
     name: str
     arguments: list[Expression]
@@ -224,10 +228,19 @@ class CallOf:
     is_pure: bool = False
     expects: tuple[Type, ...] = ()
     fields: dict[str, int | Expression] | None = None
+    meaning: Meaning = None
 
     def members(self) -> dict[str, Expression]:
         """What a maker puts into each member."""
         return {name: self.arguments[what] if isinstance(what, int) else what for name, what in (self.fields or {}).items()}
+
+
+@dataclasses.dataclass(eq=False)
+class Initial:
+    """What a struct has first, where it is declared: a value for each member, in order."""
+
+    values: list[Expression]
+    of: Type
 
 
 @dataclasses.dataclass(eq=False)
@@ -241,7 +254,7 @@ class Choice:
         return self.yes.of
 
 
-Expression: TypeAlias = Var | Literal | Word | Field | Deref | Index | AddressOf | Unary | Binary | Cast | CallOf | Choice
+Expression: TypeAlias = Var | Literal | Word | Field | Deref | Index | AddressOf | Unary | Binary | Cast | CallOf | Initial | Choice
 Change: TypeAlias = Callable[[Expression], Expression]
 CHILDREN: dict[type[Expression], tuple[str, ...]] = {
     Field: ("base",),
@@ -252,6 +265,7 @@ CHILDREN: dict[type[Expression], tuple[str, ...]] = {
     Binary: ("left", "right"),
     Cast: ("operand",),
     CallOf: ("arguments",),
+    Initial: ("values",),
     Choice: ("condition", "yes", "no"),
 }
 
@@ -451,6 +465,8 @@ def negated(one: Expression) -> Expression:
 def number_text(one: Literal) -> str:
     if one.names:
         return " | ".join(one.names)
+    if one.is_bits or one.is_of_register and one.value > 1:
+        return f"{one.value:#04x}"
     is_size = isinstance(one.of, Number) and one.of.width and one.of.width.is_size
     if is_size and one.value == (1 << 64) - 1:
         return "SIZE_MAX"
@@ -492,7 +508,8 @@ def side(one: Expression, operator: str, is_right: bool) -> str:
 
 def branch(one: Expression) -> str:
     """The text of what a choice may be. g++ warns of one that is a name of an enum if the other is none."""
-    return text(Cast(one.of, one)) if isinstance(one, Word) and isinstance(one.of, Code) else at_level(one, 3)
+    is_of_enum = isinstance(one, Word) and isinstance(one.of, Code) or isinstance(one, Literal) and len(one.names) == 1
+    return text(Cast(one.of, one)) if is_of_enum else at_level(one, 3)
 
 
 def text(one: Expression) -> str:
@@ -523,6 +540,8 @@ def text(one: Expression) -> str:
         return f"{at_level(one.condition, 3)} ? {branch(one.yes)} : {branch(one.no)}"
     if isinstance(one, CallOf):
         return f"{one.name}({', '.join(map(text, one.arguments))})"
+    if isinstance(one, Initial):
+        return f"{{ {', '.join(map(text, one.values))} }}"
     raise TypeError(one)
 
 

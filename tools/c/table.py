@@ -69,10 +69,17 @@ class Codes:
 
     of: str
     kind: str
-    numbers: dict[str, str | int]
-    # Whether C gives them, gets them, or both.
-    given: bool = True
-    got: bool = True
+    numbers: dict[str, int]
+
+
+@dataclasses.dataclass(frozen=True)
+class Shared:
+    """An enum of the header whose numbers the proved code has for its variants, and whether a program gives them."""
+
+    of: str
+    enum: str
+    numbers: dict[str, str]
+    is_given: bool = False
 
 
 @dataclasses.dataclass(frozen=True)
@@ -94,15 +101,13 @@ class Call:
     name: str
     takes: str
     gives: str = ""
-    # How the result is an error: a type of errors; or the number that tells of false, or of none; or a wait that stalled.
+    # How the result is an error: a type of errors; or the number that tells of false, or of none.
     error: str = ""
     false: str = ""
     none: str = ""
-    stalled: str = ""
     # How many were done, which is written after a stall too.
     stalls: str = ""
-    # The struct of C that is returned, if it has more than the value; or one with two bytes.
-    outcome: str = ""
+    # The struct of C with two bytes that is returned or written.
     pair: str = ""
     # By which function the result becomes what the header has; what the proved function gets, if that is not what the values say; and what
     # is done in place of one call.

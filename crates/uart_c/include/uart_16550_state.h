@@ -317,19 +317,20 @@ static inline void uart_state_characters(struct uart_state_reader *from, struct 
     uint8_t bytes[UART_FIFO_SIZE] = { 0 };
     uint8_t errors[UART_FIFO_SIZE] = { 0 };
     size_t offset;
-    uint32_t looped; /* it is shifted by up to 16 bits, which are all that unsigned may have */
+    uint16_t looped;
     uint8_t i;
 
     queue->len = uart_state_list(from, bytes, UART_FIFO_SIZE);
     uart_state_items(from, errors, queue->len, UART_FIFO_SIZE);
     offset = from->offset;
-    looped = (uint32_t)uart_state_number(from, 2);
-    if (looped >> queue->len)
-        uart_state_refuse(from, UART_STATE_BAD_VALUE, offset);
+    looped = (uint16_t)uart_state_number(from, 2);
     for (i = 0; i < UART_FIFO_SIZE; i++) {
+        if ((looped & 1) && i >= queue->len)
+            uart_state_refuse(from, UART_STATE_BAD_VALUE, offset);
         queue->items[i].byte = bytes[i];
         queue->items[i].errors = errors[i];
-        queue->items[i].is_looped = looped >> i & 1;
+        queue->items[i].is_looped = looped & 1;
+        looped >>= 1;
     }
 }
 
@@ -370,10 +371,11 @@ static inline void uart_state_more(struct uart_state_reader *from, struct uart_c
 
         offset = from->offset;
         looped = uart_state_byte(from);
-        for (bit = 0; bit < 8; bit++, looped >>= 1) {
+        for (bit = 0; bit < 8; bit++) {
             if ((looped & 1) && i + bit >= len)
                 uart_state_refuse(from, UART_STATE_BAD_VALUE, offset);
             queue->items[UART_FIFO_SIZE + i + bit].is_looped = looped & 1;
+            looped >>= 1;
         }
     }
 }

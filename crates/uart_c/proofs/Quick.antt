@@ -13,8 +13,8 @@ use Rattle.uart_live.proofs.Sends.{Sends, each, sends, unset}
 use Rattle.uart_spec.specs.FifoSize.{characters}
 use Rattle.uart_spec.specs.declared.registers.offsets.TheConstants as offsets
 use Rattle.uart_virtual.proofs.Sends.{two_ticks}
-use Rattle.uart_virtual.specs.Port.{IsStill, has_room, is_empty, is_news, is_up, rest_of, seen_of, settle, settle_ticks, spare_after, tell}
-use Rattle.uart_virtual.specs.Port.{todo_of}
+use Rattle.uart_virtual.specs.Port.{IsStill, falls, has_room, is_empty, is_news, is_up, rest_of, seen_of, settle, settle_ticks, spare_after}
+use Rattle.uart_virtual.specs.Port.{tell, todo_of}
 use Rattle.uart_virtual.specs.declared.told.Kind.{Kind}
 use Rattle.uart_virtual.specs.declared.told.Told.{Told}
 
@@ -83,14 +83,13 @@ settle-sent value c still e =
 
 -- ---- nothing is told
 
-none-used : (moves : Bool) (n : ℕ) → (n == 0) ≡ true → (if moves then n - 1 else n) ≡ n
-none-used true n z = grind (arith, common_steps)
-none-used false n z = refl
+none-used : (moves : Bool) (n : ℕ) → (if moves && false then n - 1 else n) ≡ n
+none-used true n = refl
+none-used false n = refl
 
 record Quiet (kind : Kind) (c : ChipState) (told : Told) : Type 0 where
   unseen : kind.looks ≡ false
   line : told.line ≡ false
-  spare : (told.spare == 0) ≡ true
   known : told.has_room ≡ true
   room : has_room c ≡ true
   down : is_up c ≡ false
@@ -99,10 +98,9 @@ quiet : (kind : Kind) (c : ChipState) (told : Told) → leaves_nothing kind c to
 quiet kind c told e =
     let a = each (not kind.looks) _ e in
     let b = each (not told.line) _ a.1 in
-    let d = each (told.spare == 0) _ b.1 in
-    let f = each told.has_room _ d.1 in
+    let f = each told.has_room _ b.1 in
     let g = each (has_room c) _ f.1 in
-    record { unseen = unset _ a.0; line = unset _ b.0; spare = d.0; known = f.0; room = g.0; down = unset _ g.1 }
+    record { unseen = unset _ a.0; line = unset _ b.0; known = f.0; room = g.0; down = unset _ g.1 }
 
 with-true : (b : Bool) → b ≡ (b && true)
 with-true true = refl
@@ -113,25 +111,25 @@ known-stays true more e = refl
 known-stays false more e = absurd (cc)
 
 -- what was told is what is told again
-same-told : (told : Told) (moves more : Bool) → told.line ≡ false → told.has_room ≡ true → (told.spare == 0) ≡ true →
+same-told : (told : Told) (moves v more : Bool) → told.line ≡ false → told.has_room ≡ true →
     told ≡ record {
       line = false;
       has_room = told.has_room || more;
       has_looked = told.has_looked && true;
-      spare = if moves then told.spare - 1 else told.spare;
+      spare = if moves && falls v told then told.spare - 1 else told.spare;
     }
-same-told told moves more line known none =
+same-told told moves v more line known =
     ap (λ (b : Bool). record told { line = b }) line ∙
     (ap (λ (b : Bool). record told { line = false; has_room = b }) (known-stays told.has_room more known) ∙
     (ap (λ (b : Bool). record told { line = false; has_room = told.has_room || more; has_looked = b }) (with-true told.has_looked) ∙
     ap (λ (n : ℕ). record told { line = false; has_room = told.has_room || more; has_looked = told.has_looked && true; spare = n })
-    (sym (none-used moves told.spare none))))
+    (sym (ap (λ (up : Bool). if moves && (up && not v) then told.spare - 1 else told.spare) line ∙ none-used moves told.spare))))
 
 pub quiet_told : (kind : Kind) (v : Bool) (c : ChipState) (told : Told) → leaves_nothing kind c told ≡ true →
     told ≡ tell kind v c told
 quiet_told kind v c told e =
     let q : Quiet kind c told = quiet kind c told e in
-    same-told told kind.moves_data (kind.may_make_room || is_empty c) q.line q.known q.spare ∙
+    same-told told kind.moves_data v (kind.may_make_room || is_empty c) q.line q.known ∙
     (ap (λ (up : Bool). told_if up false true) (sym q.down) ∙
     (ap (λ (looks : Bool). told_if (is_up c) looks true) (sym q.unseen) ∙
     ap (λ (some : Bool). told_if (is_up c) kind.looks some) (sym q.room)))
@@ -144,7 +142,7 @@ quiet_told kind v c told e =
           line = up;
           has_room = some && (told.has_room || (kind.may_make_room || is_empty c));
           has_looked = looks || (told.has_looked && not signal);
-          spare = spare_after (record kind { looks = looks }) signal (rest_of c) told;
+          spare = spare_after (record kind { looks = looks }) v signal (rest_of c) told;
         }
 
 pub quiet_todo : (kind : Kind) (v : Bool) (c : ChipState) (told : Told) → leaves_nothing kind c told ≡ true →

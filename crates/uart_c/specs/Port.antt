@@ -61,11 +61,11 @@ IsCanonicalPort p = IsCanonical p.chip × (p.told ≡ kept (told_of p.told))
 
 -- ---- calls of which nothing is to be told
 
--- a call of this kind leaves nothing to be told: it is no look; the line is down, as the monitor was told; no signal
--- covers others; and there is room, of which the monitor knows
+-- a call of this kind leaves nothing to be told: it is no look; the line is down, as the monitor was told; and there is
+-- room, of which the monitor knows
 abbrev pub leaves_nothing : Kind → (ended : ChipState) → Told → Bool
 leaves_nothing kind ended told =
-    not kind.looks && (not told.line && ((told.spare == 0) && (told.has_room && (has_room ended && not (is_up ended)))))
+    not kind.looks && (not told.line && (told.has_room && (has_room ended && not (is_up ended))))
 
 -- the monitor has nothing to do, but to take the output
 abbrev pub nothing_but : (ready : ℕ) → UartTodo

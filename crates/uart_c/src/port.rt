@@ -37,6 +37,7 @@ use uart_chip::controlling::{
 use uart_chip::receiving::{ReceiverParts, count_up};
 use uart_chip::sending::{send_at_once, sends_at_once};
 use uart_chip::transmitting::{TransmitterParts, held_len, next_move};
+use uart_live::interrupts_when_due;
 use uart_spec::registers::{LSR, MSR, offsets};
 use uart_spec::{FIFO_SIZE, NUM_REGISTERS};
 use uart_virtual::{Kind, Seen, Todo, Told, kind_of_read, kind_of_write, settle_ticks, tell};
@@ -220,9 +221,8 @@ fn leaves_nothing(port: &UartPort, kind: Kind) -> bool
     // What is known is asked first: if the line was up, the chip is asked for it once.
     !kind.looks
         && (!is_on(port.told.line)
-            && (port.told.spare == 0
-                && (is_on(port.told.has_room)
-                    && (has_room(&port.chip) && !is_interrupting(&port.chip)))))
+            && (is_on(port.told.has_room)
+                && (has_room(&port.chip) && !is_interrupting(&port.chip))))
 }
 
 // Does the same as `decide`, which is called only if something is new: it writes all that the
@@ -385,16 +385,12 @@ fn write_slowly(port: &mut UartPort, offset: u8, value: u8, todo: &mut UartTodo)
     finish(port, was_up, kind_of_write(offset), todo);
 }
 
-// Returns whether a write can be made by `send`: it is a byte that meets an idle transmitter, and
-// what is told does not depend on the level of the line in between.
+// Returns whether a write can be made by `send`: it is a byte that meets an idle transmitter.
 fn is_fast(port: &UartPort, offset: u8) -> bool
     ensures { result ≡ true → (offset ≡ offsets.DATA) ×
-        ((sends_at_once (chip_of port.now.chip) ≡ true) × (IsStill (chip_of port.now.chip) ×
-        (spec.ignores_falls (told_of port.now.told) ≡ true))) }
+        ((sends_at_once (chip_of port.now.chip) ≡ true) × IsStill (chip_of port.now.chip)) }
 {
-    offset as usize == offsets::DATA
-        && (sends_at_once(&port.chip)
-            && (is_settled(&port.chip) && (!is_on(port.told.line) || port.told.spare != 0)))
+    offset as usize == offsets::DATA && (sends_at_once(&port.chip) && is_settled(&port.chip))
 }
 
 // Does the same as `write_slowly` for a byte that can be sent at once: queue, shift register and
@@ -402,15 +398,15 @@ fn is_fast(port: &UartPort, offset: u8) -> bool
 fn send(port: &mut UartPort, value: u8, todo: &mut UartTodo)
     requires sends { sends_at_once (chip_of port.old.chip) ≡ true }
     requires still { IsStill (chip_of port.old.chip) }
-    requires covered { spec.ignores_falls (told_of port.old.told) ≡ true }
     ensures after { port_of port.new ≡ spec.after (Write offsets.DATA value) (port_of port.old) }
     ensures todo { todo.new ≡
         port_spec.shown (spec.todo (Write offsets.DATA value) (port_of port.old)) }
     ensures canonical { IsCanonicalPort port.old → IsCanonicalPort port.new }
 {
     let kind = kind_of_write(offsets::DATA as u8);
+    let was_up = interrupts_when_due(&port.chip, false);
     send_at_once(&mut port.chip, value);
-    report(port, false, kind, todo);
+    report(port, was_up, kind, todo);
 }
 
 /// The guest writes a register.

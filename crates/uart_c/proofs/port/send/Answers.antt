@@ -1,12 +1,12 @@
-use Rattle.std.proofs.Common.{false, ap, sym, ◌∙◌}
+use Rattle.std.proofs.Common.{Bool, ap, sym, ◌∙◌}
 use Rattle.uart_c.proofs.Quick.{settle-sent}
 use Rattle.uart_c.specs.Port.{shown, told_of}
 use Rattle.uart_c.specs.State.{chip_of}
 use Rattle.uart_c.specs.declared.chip.UartChip.{UartChip}
 use Rattle.uart_chip.specs.Chip.{ChipState}
 use Rattle.uart_spec.specs.declared.registers.offsets.TheConstants as offsets
-use Rattle.uart_virtual.proofs.Sends.{same_told, same_todo}
-use Rattle.uart_virtual.specs.Port.{PortCall, Write, happen, kind_of, settle, stays_up, tell, todo_of}
+use Rattle.uart_virtual.proofs.Writes.{stays_sent}
+use Rattle.uart_virtual.specs.Port.{PortCall, Write, happen, kind_of, settle, tell, todo_of}
 use Rattle.uart_virtual.specs.declared.told.Kind.{Kind}
 use Rattle.uart_virtual.specs.declared.told.Todo.{Todo}
 use Rattle.uart_virtual.specs.declared.told.Told.{Told}
@@ -20,9 +20,10 @@ returns-clause-after c =
     let d : ChipState = happen call old in
     let sent = c.send_at_once.ensures.after ∙ sym (settle-sent c.args.value old c.requires.still c.requires.sends) in
     let tells = c.report.ensures.told ∙
-    (ap (λ (x : ChipState). tell c.kind_of_write-kind.result false x told) sent ∙
-    (ap (λ (kind : Kind). tell kind false (settle d) told) c.kind_of_write-kind.ensures ∙
-    same_told (kind_of call old) false (stays_up call d) (settle d) told c.requires.covered)) in
+    (ap (λ (x : ChipState). tell c.kind_of_write-kind.result c.interrupts_when_due-was_up.result x told) sent ∙
+    (ap (λ (kind : Kind). tell kind c.interrupts_when_due-was_up.result (settle d) told) c.kind_of_write-kind.ensures ∙
+    ap (λ (up : Bool). tell (kind_of call old) up (settle d) told)
+    (c.interrupts_when_due-was_up.ensures ∙ stays_sent c.args.value old c.requires.still c.requires.sends))) in
     ap (λ (x : ChipState). record { chip = x; told = told_of c.report.new.port.told })
     (ap (λ (u : UartChip). chip_of u) c.report.ensures.chip ∙ sent) ∙
     ap (λ (t : Told). record { chip = settle d; told = t }) tells
@@ -36,9 +37,10 @@ returns-clause-todo c =
     let sent = c.send_at_once.ensures.after ∙ sym (settle-sent c.args.value old c.requires.still c.requires.sends) in
     c.report.ensures.todo ∙
     ap (λ (todo : Todo). shown todo)
-    (ap (λ (x : ChipState). todo_of c.kind_of_write-kind.result false x told) sent ∙
-    (ap (λ (kind : Kind). todo_of kind false (settle d) told) c.kind_of_write-kind.ensures ∙
-    same_todo (kind_of call old) false (stays_up call d) (settle d) told c.requires.covered))
+    (ap (λ (x : ChipState). todo_of c.kind_of_write-kind.result c.interrupts_when_due-was_up.result x told) sent ∙
+    (ap (λ (kind : Kind). todo_of kind c.interrupts_when_due-was_up.result (settle d) told) c.kind_of_write-kind.ensures ∙
+    ap (λ (up : Bool). todo_of (kind_of call old) up (settle d) told)
+    (c.interrupts_when_due-was_up.ensures ∙ stays_sent c.args.value old c.requires.still c.requires.sends)))
 
 pub returns-clause-canonical : goal.returns-clause-canonical
 returns-clause-canonical c w = c.report.ensures.canonical (c.send_at_once.ensures.canonical w.0, w.1)
