@@ -1,10 +1,11 @@
 // SPDX-License-Identifier: MIT OR GPL-2.0-only
 /*
- * Chips of a device tree, as boards have them. Their registers are in memory. How far apart, and how wide, are properties of the node; so are
- * the clocks, which have to run, and the line that holds the chip in reset.
+ * Chips of a device tree, as boards have them. Their registers are in memory. How far apart, and
+ * how wide, are properties of the node; so are the clocks, which have to run, and the line that
+ * holds the chip in reset.
  *
- * The chips of Synopsys' DesignWare ignore a write of LCR while they are busy. The library has a device for them, which needs one register
- * more than the eight.
+ * The chips of Synopsys' DesignWare ignore a write of LCR while they are busy. The library has a
+ * device for them, which needs one register more than the eight.
  */
 #include <linux/clk.h>
 #include <linux/err.h>
@@ -50,6 +51,7 @@ static int find_registers(struct platform_device *device, struct u16550_tty_chip
 {
 	struct resource *memory = platform_get_resource(device, IORESOURCE_MEM, 0);
 	u32 offset = 0, shift = 0, width = 1;
+	bool is_big_endian;
 
 	if (!memory)
 		return -ENODEV;
@@ -63,10 +65,14 @@ static int find_registers(struct platform_device *device, struct u16550_tty_chip
 	chip->shift = shift;
 	if (chip->size < (chip->is_design_ware ? DESIGN_WARE_REGISTERS : REGISTERS) << shift)
 		return -EINVAL;
-	return set_width(chip, width, device_property_read_bool(&device->dev, "big-endian")) ? 0 : -EINVAL;
+	is_big_endian = device_property_read_bool(&device->dev, "big-endian");
+	return set_width(chip, width, is_big_endian) ? 0 : -EINVAL;
 }
 
-/* Has a clock run as long as the driver has the device. Without one in the device tree there is none. */
+/*
+ * Has a clock run as long as the driver has the device. Without one in the device tree there is
+ * none.
+ */
 static struct clk *run_clock(struct device *device, const char *name)
 {
 	return devm_clk_get_optional_enabled(device, name);
@@ -112,7 +118,8 @@ static void remove(void *device)
 static int probe(struct platform_device *device)
 {
 	struct u16550_tty_chip chip = {
-		.is_design_ware = (enum kind)(uintptr_t)device_get_match_data(&device->dev) == DESIGN_WARE,
+		.is_design_ware = device_get_match_data(&device->dev) == (void *)DESIGN_WARE,
+		.has_auto_flow = device_property_read_bool(&device->dev, "auto-flow-control"),
 	};
 	int irq = platform_get_irq_optional(device, 0), error;
 

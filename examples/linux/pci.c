@@ -1,7 +1,8 @@
 // SPDX-License-Identifier: MIT OR GPL-2.0-only
 /*
- * Cards on PCI that the user names by their numbers, in `new_id` of this driver. Nobody else knows which cards have a 16550 behind their
- * first I/O ports: Linux's own driver has a table of five hundred.
+ * Cards on PCI that the user names by their numbers, in `new_id` of this driver. Nobody else knows
+ * which cards have a 16550 behind their first I/O ports: Linux's own driver has a table of five
+ * hundred.
  */
 #include <linux/module.h>
 #include <linux/pci.h>
@@ -16,11 +17,12 @@ static int probe(struct pci_dev *device, const struct pci_device_id *id)
 	struct u16550_tty_chip chip = PORT_CHIP;
 	int error;
 
-	if (!(pci_resource_flags(device, BAR) & IORESOURCE_IO) || pci_resource_len(device, BAR) < REGISTERS)
+	if (!(pci_resource_flags(device, BAR) & IORESOURCE_IO) ||
+	    pci_resource_len(device, BAR) < REGISTERS)
 		return -ENODEV;
 	/*
-	 * A card has its ports only while it is enabled, and its interrupt is known only from then on. That ends with the probe, if it fails, or
-	 * when the driver leaves the card.
+	 * A card has its ports only while it is enabled, and its interrupt is known only from then
+	 * on. That ends with the probe, if it fails, or when the driver leaves the card.
 	 */
 	error = pcim_enable_device(device);
 	if (error)

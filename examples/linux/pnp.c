@@ -1,10 +1,12 @@
 // SPDX-License-Identifier: MIT OR GPL-2.0-only
 /*
- * Chips that firmware describes. On a PC these are its serial ports, and firmware may switch one off: Linux has that done when a driver
- * leaves a device, and has it switched on for the next driver. Whoever takes the I/O ports without the device finds no chip there.
+ * Chips that firmware describes. On a PC these are its serial ports, and firmware may switch one
+ * off: Linux has that done when a driver leaves a device, and has it switched on for the next
+ * driver. Whoever takes the I/O ports without the device finds no chip there.
  *
- * The port and the interrupt are the firmware's. So is how the interrupt is triggered: Linux has told the interrupt controller that before
- * the probe, and a request without a trigger leaves it so.
+ * The port and the interrupt are the firmware's. So is how the interrupt is triggered: Linux has
+ * told the interrupt controller that before the probe, and a request without a trigger leaves it
+ * so.
  */
 #include <linux/module.h>
 #include <linux/pnp.h>

@@ -1,5 +1,8 @@
 // SPDX-License-Identifier: MIT OR GPL-2.0-only
-/* Chips that the user names, since no firmware describes them: an old card, a card on PCI, a machine without PNP. Each is a device. */
+/*
+ * Chips that the user names, since no firmware describes them: an old card, a card on PCI, a
+ * machine without PNP. Each is a device.
+ */
 #define pr_fmt(fmt) KBUILD_MODNAME ": " fmt
 #include <linux/err.h>
 #include <linux/module.h>
@@ -10,9 +13,9 @@
 static unsigned int ports[MOST_PORTS], irqs[MOST_PORTS];
 static unsigned int port_count, irq_count;
 module_param_array(ports, uint, &port_count, 0444);
-MODULE_PARM_DESC(ports, "the first I/O port of each chip, in place of those that firmware describes; none may belong to another driver");
+MODULE_PARM_DESC(ports, "the first I/O port of each chip, in place of those that firmware describes");
 module_param_array(irqs, uint, &irq_count, 0444);
-MODULE_PARM_DESC(irqs, "the interrupt of each of ports, which several may share, or 0: then a timer looks at the chip");
+MODULE_PARM_DESC(irqs, "the interrupt of each of ports, or 0: then a timer looks at the chip");
 
 static struct platform_device *devices[MOST_PORTS];
 

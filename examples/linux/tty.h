@@ -1,5 +1,8 @@
 /* SPDX-License-Identifier: MIT OR GPL-2.0-only */
-/* What the files of the module share: tty.c drives the chips that pnp.c, pci.c, of.c and ports.c find. */
+/*
+ * What the files of the module share: tty.c drives the chips that pnp.c, pci.c, of.c and ports.c
+ * find.
+ */
 #ifndef U16550_TTY_H
 #define U16550_TTY_H
 
@@ -16,24 +19,27 @@
 #define PORT_CHIP { .iotype = UPIO_PORT, .frequency = FREQUENCY }
 
 struct u16550_tty_chip {
-	unsigned char iotype;		/* UPIO_PORT, or how registers in memory are accessed: UPIO_MEM, _MEM16, _MEM32, _MEM32BE */
+	/* UPIO_PORT, or for registers in memory UPIO_MEM, _MEM16, _MEM32 or _MEM32BE. */
+	unsigned char iotype;
 	unsigned long base;		/* its first I/O port */
 	resource_size_t memory, size;	/* where its registers in memory are */
 	u8 shift;			/* and as a power of two how far apart */
 	bool is_design_ware;
+	bool has_auto_flow;		/* it can do flow control by RTS and CTS itself */
 	unsigned int irq;		/* 0: a timer looks at the chip */
 	unsigned int frequency;		/* at its clock input */
 };
 
 /*
- * Makes a terminal for the chip of a device, with the first number that is free. The device's driver data belong to it until it is removed.
- * Returns 0 or an error: -ENODEV if the chip is not there, and then the device is left to another driver.
+ * Makes a terminal for the chip of a device, with the first number that is free. The device's
+ * driver data belong to it until it is removed. Returns 0 or an error: -ENODEV if the chip is not
+ * there, and then the device is left to another driver.
  */
 int u16550_tty_add(struct device *device, const struct u16550_tty_chip *chip);
 
 /*
- * The same with this number, for a chip that the user has named. If it is not there the terminal has no type, and `setserial` may move it
- * to where one is.
+ * The same with this number, for a chip that the user has named. If it is not there the terminal
+ * has no type, and `setserial` may move it to where one is.
  */
 int u16550_tty_add_named(struct device *device, int number, const struct u16550_tty_chip *chip);
 

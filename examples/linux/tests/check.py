@@ -1,7 +1,7 @@
 #!/usr/bin/env python3
 """Tries u16550_tty in guests, and beside Linux's own driver on the same port:
 
-    check.py [--whole] --lines LINES.so --firmware FIRMWARE.aml WORK KERNEL INITRAMFS
+    check.py [--whole | --debug] --lines LINES.so --firmware FIRMWARE.aml WORK KERNEL INITRAMFS
     check.py --tree TREE.dts WORK KERNEL INITRAMFS
 
 Without --whole it makes the checks that take a minute together. Prints a line for each check, and what the two drivers came to. The last
@@ -12,6 +12,8 @@ modem lines, which lines.c gives it; one for the guest's shell, which is a PCI c
 be pulled out. Linux's own driver keeps that of the shell and one of the two that are joined. Another guest has one port beside that of the
 shell, which its firmware switches on and off.
 
+With --debug the kernel is one that looks after itself, and is asked what it has found.
+
 With --tree the guest is a board of 64-bit Arm, whose device tree gets what TREE.dts adds.
 """
 import argparse
@@ -19,26 +21,27 @@ import mmap
 import os
 import re
 import struct
-import subprocess
 import sys
 import time
 import tty
 
 sys.dont_write_bytecode = True
 
-from guest import CLOCK, RECEIVED, SENT, Guest, Line, Machine, Silent, Task, Unexpected, stream
+from guest import CLOCK, RECEIVED, SENT, Guest, Line, Silent, Task, Unexpected, board, stream, terminal
 
-OWN, HERE, JOINED, OTHER, MODEM = "ttyS1", "ttyP0", "ttyP1", "ttyS3", "ttyP2"
+OWN, HERE, JOINED, OTHER, MODEM = "ttyS1", "ttyPV0", "ttyPV1", "ttyS3", "ttyPV2"
 PORTS = "ports=0x2f8,0x3e8,0x3f8 irqs=3,3,4"
 NOBODYS = 0x2D8  # here is neither a chip nor a driver
 UNUSED_INTERRUPT = 6
 SILENT = "ff"  # what is read where no chip is
 PATIENCE = 10  # seconds, of terminal.c
 CARD, CARD_IS, SLOT = "0000:00:04.0", "1b36 0002", "addr=4"  # how Linux names it, its numbers, and how the emulator names its slot
+OF_CARD = f"/sys/bus/pci/devices/{CARD}"
 KERNEL_PPS = 18  # of linux/tty.h
 PULSES = 4
 LONG = 1 << 20  # milliseconds
-UNKNOWN, C16450, C16550A, CUSTOM_DIVISOR = 0, 2, 4, 0x30  # of linux/serial_core.h and linux/tty_flags.h
+UNKNOWN, C16450, C16550A, C16750, CUSTOM_DIVISOR = 0, 2, 4, 8, 0x30  # of linux/serial_core.h and linux/tty_flags.h
+FCR, MCR, AUTO_FLOW = 2, 4, 0x20  # of linux/serial_reg.h
 TAKEN = ("0x2f8", "0x3e8", "0x3f8")  # Linux's own driver has these at first
 RTS, DTR, CTS, CARRIER, DSR = 4, 2, 0x20, 0x40, 0x100
 CONNECTED = CTS | CARRIER | DSR
@@ -49,6 +52,9 @@ MOST_ROUNDS = 6
 # five times a second would be a hundred.
 IDLE = 20
 MOST_TICKS = 50
+# A kernel that looks after itself is slow in an emulator. For the firmware's methods that route interrupts it takes longer than it lets them;
+# and where it keeps a stack for each piece of memory, for all of them. So it has kmemleak and the like, but they are off.
+HASTE = "acpi=noirq kmemleak=off no_debug_objects"
 # What costs are compared: a name, the size of each write, whether it goes through the chip's loopback, and how many bytes.
 COSTS = (("sent in writes of 1000", 1000, 0, 20_000), ("sent in writes of 1", 1, 0, 2000),
          ("sent and received in writes of 1000", 1000, 1, 20_000), ("sent and received in writes of 16", 16, 1, 4000),
@@ -129,7 +135,7 @@ class Bench:
     def wrong(self):
         """What the kernel has said until now that the driver is wrong, or it itself."""
         self.take_log()
-        return re.findall(r".*(?:WARNING|BUG|Oops|Unknown symbol|u16550_tty: ttyP.: [a-z_]+:).*", self.log)
+        return re.findall(r".*(?:WARNING|\bBUG|Oops|INFO: trying to register|ODEBUG|Unknown symbol|ttyPV.: [a-z_]+:).*", self.log)
 
     def task(self, command):
         return Task(self.guest, command)
@@ -162,7 +168,8 @@ class Ports(Bench):
                 ("modem", f"serial,path={self.modem.name}", 0x3F8, 4)):
             ports += ["-chardev", f"{chardev},id={name}", "-device", f"isa-serial,chardev={name},iobase={base:#x},irq={interrupt}"]
         ports += ["-chardev", f"socket,path={work}/card,server=on,wait=off,id=card", "-device", f"{self.CARD},{SLOT}"]
-        super().__init__(Guest(work, given.kernel, given.initramfs, [*ports, "-D", self.trace], append=f"console={HERE},115200",
+        super().__init__(Guest(work, given.kernel, given.initramfs, [*ports, "-D", self.trace],
+                               append=f"console={HERE},115200 {HASTE if given.debug else ''}",
                                processors=processors,
                                environment={**os.environ, **self.modem.environment, "LD_PRELOAD": given.lines}), work)
         self.card = Line(f"{work}/card")
@@ -183,12 +190,13 @@ class Ports(Bench):
 
 
 class Counted(Bench):
-    """A PC whose processor takes a nanosecond of its own time for each instruction, however long the emulator takes."""
+    """A PC whose processor takes a nanosecond of its own time for each instruction, however long the emulator takes. What it sends goes
+    nowhere: who would read it may come late, and then less is sent at once."""
 
     def __init__(self, given, work):
         super().__init__(Guest(work, given.kernel, given.initramfs,
-                               ["-chardev", f"socket,path={work}/here,server=on,wait=off,id=here",
-                                "-device", "isa-serial,chardev=here,iobase=0x2f8,irq=3", "-icount", "shift=0"]), work)
+                               ["-chardev", f"socket,path={work}/here,server=on,wait=off,id=here", "-chardev", "null,id=nowhere",
+                                "-device", "isa-serial,chardev=nowhere,iobase=0x2f8,irq=3", "-icount", "shift=0"]), work)
 
 
 class Switched(Bench):
@@ -199,30 +207,23 @@ class Switched(Bench):
         super().__init__(Guest(work, given.kernel, given.initramfs,
                                ["-chardev", f"socket,path={work}/here,server=on,wait=off,id=here",
                                 "-device", f"pci-serial,chardev=here,{SLOT}", "-acpitable", f"file={given.firmware}"],
-                               console="ttyS5", shell="ttyS5", processors=2), work)
+                               append=HASTE if given.debug else "", console="ttyS5", shell="ttyS5", processors=2), work)
 
 
 class Board(Bench):
-    """The board that QEMU calls `virt`, with a chip that its device tree describes. It is that of a card on PCI: on this board the I/O ports of
-    cards are a part of memory, and Linux gives the first card the first of those that it gives away."""
-
-    EMULATOR = ["qemu-system-aarch64", "-cpu", "cortex-a72", "-m", "512"]
+    """The board that QEMU calls `virt`, with two chips that its device tree describes. They are those of cards on PCI: on this board the I/O
+    ports of cards are a part of memory, and Linux gives the first card the first of those that it gives away. The second has a device below
+    it, which sends back what comes."""
 
     def __init__(self, given, work):
-        machine = Machine([*self.EMULATOR, "-machine", "virt", "-dtb", self.tree(given.tree, work)], ["-serial", "chardev:shell"], "")
-        super().__init__(Guest(work, given.kernel, given.initramfs,
-                               ["-chardev", f"socket,path={work}/here,server=on,wait=off,id=here",
-                                "-device", "pci-serial,chardev=here,addr=1"],
-                               console="ttyAMA0", shell="ttyAMA0", processors=2, machine=machine), work)
-
-    def tree(self, more, work):
-        """The device tree of the emulator, with what is added to it."""
-        subprocess.run([*self.EMULATOR, "-smp", "2", "-machine", f"virt,dumpdtb={work}/own.dtb"], check=True, capture_output=True)
-        told = subprocess.run(["dtc", "-q", "-I", "dtb", "-O", "dts", f"{work}/own.dtb"], check=True, capture_output=True).stdout
-        with open(more, "rb") as file:
-            told += file.read()
-        subprocess.run(["dtc", "-q", "-I", "dts", "-O", "dtb", "-o", f"{work}/tree.dtb", "-"], input=told, check=True)
-        return f"{work}/tree.dtb"
+        self.trace = f"{work}/trace"
+        ports = ["-D", self.trace]
+        for place, name in enumerate(("here", "echo"), 1):
+            ports += ["-chardev", f"socket,path={work}/{name},server=on,wait=off,id={name}",
+                      "-device", f"pci-serial,chardev={name},addr={place}"]
+        super().__init__(Guest(work, given.kernel, given.initramfs, ports,
+                               console="ttyAMA0", shell="ttyAMA0", processors=2, machine=board(given.tree, work)), work)
+        self.echo = Line(f"{work}/echo")
 
 
 # ---- the checks: each is given the bench, and says what it found
@@ -237,6 +238,17 @@ def finds_chips(bench):
     bench.own_driver("unbind")
     told = bench.insert()
     bench.judge("three chips are found, and pass the loopback test", told.count("has passed the loopback test") == 3, told)
+
+
+def has_an_early_console(bench):
+    """On a chip that it sets up, and on one as another has left it."""
+    bench.here.drain(0.2)
+    told = bench.run("for baud in 115200 0; do insmod /modules/early_text.ko baud=$baud; rmmod early_text; done")
+    came = bench.here.drain(0.5)
+    bench.judge("the early console writes, on a chip that it sets up and on one that was", came == b"an early text\r\n" * 2, f"{told}{came}")
+    found, told = divisors(bench, "insmod /modules/early_text.ko baud=9600; rmmod early_text")
+    bench.here.drain(0.5)
+    bench.judge("its speed is set", found == [12], f"{found}{told}")
 
 
 def insert_with(bench, ports):
@@ -254,17 +266,17 @@ def insert_again(bench):
 def belongs_to_a_device(bench):
     """Without parameters the module has the devices that firmware describes. They are unbound and bound while programs use their ports."""
     told = insert_with(bench, "")
-    found = dict(re.findall(r"(ttyP\d): a chip at (0x\w+) with interrupt \d+ has passed", told))
+    found = dict(re.findall(r"(ttyPV\d): a chip at (0x\w+) with interrupt \d+ has passed", told))
     port = next((name for name, base in found.items() if base == "0x2f8"), HERE)
     good, moved = bench.transfer(port, 500, 500)
     bench.judge("a port is found for each device that firmware describes", sorted(found.values()) == sorted(TAKEN) and good, told + moved)
     way = f"echo {bench.devices['0x2f8']} > /sys/bus/pnp/drivers/u16550_tty"
     task = bench.task(f"stty -F /dev/{port} raw -echo; echo ready; cat < /dev/{port}").ready()
-    told = bench.run(f"{way}/unbind; ls /dev/ttyP*")
+    told = bench.run(f"{way}/unbind; ls /dev/ttyPV*")
     ended = task.result()
     bench.judge("unbound while a program receives: it is hung up, and the terminal and the region are gone",
                 "ended" in ended and f"/dev/{port}" not in told and "02f8-02ff" not in regions(bench), f"{told}{ended}{regions(bench)}")
-    told = bench.run(f"for n in $(seq 1 20); do {way}/bind; echo $n > /dev/{port}; {way}/unbind; done; {way}/bind; ls /dev/ttyP*")
+    told = bench.run(f"for n in $(seq 1 20); do {way}/bind; echo $n > /dev/{port}; {way}/unbind; done; {way}/bind; ls /dev/ttyPV*")
     good, moved = bench.transfer(port, 500, 500)
     bench.judge("bound again, it is there again, and works", good and f"/dev/{port}" in told, told + moved)
     insert_again(bench)
@@ -276,7 +288,7 @@ def is_switched_by_firmware(bench):
     way = f"echo {os.path.basename(device)} > /sys/bus/pnp/drivers"
     # At boot the chip's card and its device are both found, and the card has the port in the end.
     told = bench.run(f"echo {CARD} > /sys/bus/pci/drivers/serial/unbind; {way}/serial/unbind; {way}/serial/bind; "
-                     f"ls {device}/tty; sed -n '2s/io \\(0x[0-9a-f]*\\).*/\\1/p' {device}/resources")
+                     f"{terminal(device)}; sed -n '2s/io \\(0x[0-9a-f]*\\).*/\\1/p' {device}/resources")
     number, base = told.split()[-2:]
     good, told = bench.transfer(number, 5000, 5000)
     bench.judge("Linux's own driver has the port, which is on", good and bench.lcr(base) != SILENT, told)
@@ -291,17 +303,44 @@ def is_switched_by_firmware(bench):
     told = bench.run(f"for n in $(seq 1 10); do {way}/u16550_tty/unbind; {way}/u16550_tty/bind; echo $n > /dev/{HERE}; done")
     good, moved = bench.transfer(HERE, 500, 500)
     bench.judge("ten times off and on, it works", good, told + moved)
-    told = bench.run(f"rmmod u16550_tty; head -n 1 {device}/resources; {way}/serial/bind; ls {device}/tty")
+    told = bench.run(f"rmmod u16550_tty; head -n 1 {device}/resources; {way}/serial/bind; {terminal(device)}")
     good, moved = bench.transfer(told.split()[-1], 500, 500)
     wrong = bench.wrong()
     bench.judge("it is off without the module, and Linux's own driver can have it again", "state = disabled" in told and good and not wrong,
                 "\n".join([told + moved, *wrong]))
 
 
+def flows_by_itself(bench):
+    """A chip that can do flow control itself does, with both drivers, while the user wants that."""
+    device, way = "/sys/bus/platform/devices/3eff1000.serial", "echo 3eff1000.serial > /sys/bus/platform/drivers"
+    found = {}
+    for driver, command in (OWN, ":"), (HERE, f"{way}/of_serial/unbind; insmod /modules/u16550_tty.ko"):
+        name = bench.run(f"{command}; {terminal(device)}").strip()
+        found[driver] = [any(value & AUTO_FLOW for value in written(bench, MCR, f"stty -F /dev/{name} {words}")[0])
+                         for words in ("-crtscts", "crtscts", "-crtscts", "-crtscts")]
+    bench.run(f"rmmod u16550_tty; {way}/of_serial/bind")
+    # The third opens a port that still has flow control.
+    bench.judge("with `auto-flow-control` the chip does it while the user wants flow control, as with Linux's own driver",
+                found[OWN] == found[HERE] == [False, True, True, False], found)
+
+
+def has_a_device_below(bench):
+    """A device below a port is found with both drivers, and is talked to over it. The port then is no terminal."""
+    way = "echo 3eff1008.serial > /sys/bus/platform/drivers"
+    came = {}
+    for driver, command in ("of_serial", ":"), ("u16550_tty_of", f"{way}/of_serial/unbind; {way}/u16550_tty_of/bind"):
+        told = bench.run(f"{command}; insmod /modules/echo.ko; ls /sys/bus/serial/devices /sys/bus/serial/drivers/echo")
+        bench.echo.send(stream(3000, RECEIVED))
+        came[driver] = bench.echo.exchange(b"", 3000, 5)
+        bench.run("rmmod echo")
+    bench.judge("a device that the device tree describes below a port is talked to over it, as with Linux's own driver",
+                came["of_serial"] == came["u16550_tty_of"] == stream(3000, RECEIVED), f"{told}{[len(one) for one in came.values()]}")
+
+
 def is_in_a_device_tree(bench):
     """A chip with registers in memory, which a node describes, without a parameter."""
     device = "/sys/bus/platform/devices/3eff1000.serial"
-    own = bench.run(f"ls {device}/tty").strip()
+    own = bench.run(terminal(device)).strip()
     good, told = bench.transfer(own, 5000, 5000)
     bench.judge("Linux's own driver has the chip of the device tree", good, told)
     way = "echo 3eff1000.serial > /sys/bus/platform/drivers"
@@ -312,10 +351,10 @@ def is_in_a_device_tree(bench):
                 f"{HERE}: a chip at 0x3eff1000 with interrupt " in told and "3eff1000-3eff1007 : u16550_tty" in told and good, told + moved)
     bench.judge("its interrupt comes", "does not come" not in bench.take_log())
     task = bench.task(f"stty -F /dev/{HERE} raw -echo; echo ready; cat < /dev/{HERE}").ready()
-    told = bench.run(f"{way}/u16550_tty_of/unbind; ls /dev/ttyP*; grep u16550_tty /proc/iomem")
+    told = bench.run(f"{way}/u16550_tty_of/unbind; ls /dev/ttyPV*; grep u16550_tty /proc/iomem")
     ended = task.result()
     bench.judge("unbound while a program receives: it is hung up, and the terminal and the region are gone", told.strip() ==
-                "ls: /dev/ttyP*: No such file or directory" and "ended" in ended, told + ended)
+                "ls: /dev/ttyPV*: No such file or directory" and "ended" in ended, told + ended)
     told = bench.run(f"for n in $(seq 1 10); do {way}/u16550_tty_of/bind; echo $n > /dev/{HERE}; {way}/u16550_tty_of/unbind; done; "
                      f"{way}/u16550_tty_of/bind")
     good, moved = bench.transfer(HERE, 500, 500)
@@ -324,7 +363,7 @@ def is_in_a_device_tree(bench):
 
 def is_given_back(bench):
     told = bench.run("rmmod u16550_tty; echo 3eff1000.serial > /sys/bus/platform/drivers/of_serial/bind; "
-                     "ls /sys/bus/platform/devices/3eff1000.serial/tty")
+                     + terminal("/sys/bus/platform/devices/3eff1000.serial"))
     good, moved = bench.transfer(told.split()[-1], 500, 500)
     wrong = bench.wrong()
     bench.judge("without the module Linux's own driver can have it again, and nothing was wrong", good and not wrong,
@@ -334,28 +373,28 @@ def is_given_back(bench):
 def is_unbound(bench):
     """The same with a port that the user has named: its device is one of the platform."""
     way = "echo u16550_tty.1 > /sys/bus/platform/drivers/u16550_tty"
-    told = bench.run(f"{way}/unbind; ls /dev/ttyP*")
+    told = bench.run(f"{way}/unbind; ls /dev/ttyPV*")
     bench.judge("a port that was named is unbound, alone", f"/dev/{JOINED}" not in told and f"/dev/{HERE}" in told, told)
-    told = bench.run(f"{way}/bind; ls /dev/ttyP*")
+    told = bench.run(f"{way}/bind; ls /dev/ttyPV*")
     bench.judge("it has the same number when it is bound again", f"/dev/{JOINED}" in told, told)
     others = "/sys/bus/platform/devices/pcspkr"
     told = bench.run(f"echo u16550_tty > {others}/driver_override; echo pcspkr > /sys/bus/platform/drivers/u16550_tty/bind; "
-                     f"[ -e {others}/driver ] && echo bound; ls /dev/ttyP*")
-    bench.judge("another device of the platform is refused", "bound" not in told and told.count("/dev/ttyP") == 3, told)
+                     f"[ -e {others}/driver ] && echo bound; ls /dev/ttyPV*")
+    bench.judge("another device of the platform is refused", "bound" not in told and told.count("/dev/ttyPV") == 3, told)
 
 
 def has_a_card(bench):
     """A card is given to the module by its numbers, though it is switched off. Then it is pulled out, with both drivers."""
     told = bench.run(f"echo {CARD} > /sys/bus/pci/drivers/serial/unbind; printf '\\0' | "
                      f"dd of=/sys/bus/pci/devices/{CARD}/config bs=1 seek=4 conv=notrunc 2> /dev/null; "
-                     f"echo {CARD_IS} > /sys/bus/pci/drivers/u16550_tty/new_id; ls /sys/bus/pci/devices/{CARD}/tty")
-    terminal = (told.split() or [HERE])[0]
-    good, moved = bench.transfer(terminal, 500, 500, line=bench.card)
-    bench.judge("a card is had by its numbers, and is switched on", good and terminal.startswith("ttyP"), told + moved)
-    this = pull_out(bench, terminal)
+                     f"echo {CARD_IS} > /sys/bus/pci/drivers/u16550_tty/new_id; {terminal(OF_CARD)}")
+    name = (told.split() or [HERE])[0]
+    good, moved = bench.transfer(name, 500, 500, line=bench.card)
+    bench.judge("a card is had by its numbers, and is switched on", good and name.startswith("ttyPV"), told + moved)
+    this = pull_out(bench, name)
     bench.judge("when it is pulled out, its terminal is hung up and gone", this == ("write error: Input/output error", "ended", ""), this)
     put_in(bench)
-    own = pull_out(bench, bench.run(f"ls /sys/bus/pci/devices/{CARD}/tty").strip())
+    own = pull_out(bench, bench.run(terminal(OF_CARD)).strip())
     # Its node stays, without a chip: it has made as many as the kernel's command line says.
     bench.judge("so it is with Linux's own driver", own[:2] == this[:2], own)
     put_in(bench)
@@ -367,19 +406,19 @@ def put_in(bench):
     # The emulator still has one that was pulled out, until the guest has let it go.
     while "rror" in bench.guest.tell_monitor(f"device_add {bench.CARD},{SLOT}") and CLOCK.now() < end:
         time.sleep(0.1)
-    bench.run(f"n=0; until [ -e /sys/bus/pci/devices/{CARD}/tty ] || [ $n = 100 ]; do n=$((n+1)); usleep 100000; done")
+    bench.run(f"n=0; until [ -n \"$({terminal(OF_CARD)})\" ] || [ $n = 100 ]; do n=$((n+1)); usleep 100000; done")
 
 
-def pull_out(bench, terminal):
+def pull_out(bench, name):
     """Pulls the card out. Returns how a program that writes ended, how one that reads, and whether the terminal is there."""
-    bench.run(f"stty -F /dev/{terminal} raw -echo clocal 115200")
-    writer = bench.task(f"exec 5<> /dev/{terminal}; echo ready; "
+    bench.run(f"stty -F /dev/{name} raw -echo clocal 115200")
+    writer = bench.task(f"exec 5<> /dev/{name}; echo ready; "
                         "for n in $(seq 1 100); do echo $n >&5 || break; usleep 100000; done").ready()
-    reader = bench.task(f"cat < /dev/{terminal}")
+    reader = bench.task(f"cat < /dev/{name}")
     bench.guest.tell_monitor("device_del card")
     wrote, read = (task.result(30).split("\n") for task in (writer, reader))
     bench.run(f"n=0; while [ -e /sys/bus/pci/devices/{CARD} ] && [ $n != 100 ]; do n=$((n+1)); usleep 100000; done")
-    return wrote[1].removeprefix("sh: "), read[0].split()[0], bench.run(f"ls /dev/{terminal} 2> /dev/null").strip()
+    return wrote[1].removeprefix("sh: "), read[0].split()[0], bench.run(f"ls /dev/{name} 2> /dev/null").strip()
 
 
 def is_pulled_out(bench):
@@ -403,7 +442,7 @@ def is_pulled_out(bench):
 
 def loses_interrupts(bench):
     """Somebody else looks at ISR behind each byte that is sent, so that the transmitter's interrupt never comes."""
-    bench.run("insmod /modules/faults.ko fault=stolen symbol=u16550_tty:write_register")
+    bench.run("insmod /modules/faults.ko fault=stolen")
     good, told = bench.transfer(HERE, 5000, 0)
     bench.run("rmmod faults")
     bench.judge("all is sent, though no interrupt of the transmitter comes", good, told)
@@ -412,15 +451,21 @@ def loses_interrupts(bench):
 
 
 def times_pulses(bench):
+    """With both drivers."""
     bench.run("insmod /modules/pps-ldisc.ko")
-    task = bench.task(f"terminal discipline /dev/{MODEM} {KERNEL_PPS}").ready()
-    for _ in range(PULSES):
-        for lines in CTS | DSR, CONNECTED:
-            bench.modem.put(lines)
-            time.sleep(0.3)
-    told = bench.run("cat /sys/class/pps/pps0/assert /sys/class/pps/pps0/clear; killall terminal")
-    told += task.result()
-    bench.judge("kernel PPS has the time of each pulse on DCD", re.findall(r"#(\d+)", told) == [str(PULSES)] * 2, told)
+    counts, told = {}, ""
+    for device, port in (OWN, "ttyS0"), (HERE, MODEM):
+        give(bench, device)
+        task = bench.task(f"terminal discipline /dev/{port} {KERNEL_PPS}").ready()
+        for _ in range(PULSES):
+            for lines in CTS | DSR, CONNECTED:
+                bench.modem.put(lines)
+                time.sleep(0.3)
+        found = bench.run("cat /sys/class/pps/pps0/assert /sys/class/pps/pps0/clear; killall terminal") + task.result()
+        counts[device] = re.findall(r"#(\d+)", found)
+        told += found
+    bench.judge("kernel PPS has the time of each pulse on DCD, as with Linux's own driver",
+                counts[OWN] == counts[HERE] == [str(PULSES)] * 2, told)
 
 
 def leaves_processors_asleep(bench):
@@ -535,22 +580,33 @@ def is_another_chip(bench):
                 good and f"set: Invalid argument, type {C16450}" in more and f"set: done, type {C16550A}" in more, more + told)
 
 
-def divisors(bench, command):
-    """The low bytes of the divisors that a command has written."""
+def accesses(bench, way, command):
+    """The accesses of a command, and what it says: read or write, as registers and values."""
     with open(bench.trace, "wb"):
         pass
-    bench.guest.tell_monitor("trace-event serial_write on")
+    bench.guest.tell_monitor(f"trace-event serial_{way} on")
     told = bench.run(command)
-    bench.guest.tell_monitor("trace-event serial_write off")
-    found, latch = [], False
+    bench.guest.tell_monitor(f"trace-event serial_{way} off")
     with open(bench.trace, encoding="utf-8", errors="replace") as trace:
-        for row in trace:
-            if match := re.search(r"serial_write write addr 0x0(\d) val 0x(\w+)", row):
-                register, value = int(match[1]), int(match[2], 16)
-                if register == 3:
-                    latch = value & 0x80
-                elif register == 0 and latch:
-                    found.append(value)
+        found = re.findall(rf"serial_{way} {way} addr 0x0(\d) val 0x(\w+)", trace.read())
+    return [(int(register), int(value, 16)) for register, value in found], told
+
+
+def written(bench, wanted, command):
+    """The values that a command has written to a register, and what it says."""
+    found, told = accesses(bench, "write", command)
+    return [value for register, value in found if register == wanted], told
+
+
+def divisors(bench, command):
+    """The low bytes of the divisors that a command has written."""
+    writes, told = accesses(bench, "write", command)
+    found, latch = [], False
+    for register, value in writes:
+        if register == 3:
+            latch = value & 0x80
+        elif register == 0 and latch:
+            found.append(value)
     return found, told
 
 
@@ -562,6 +618,59 @@ def has_a_divisor_of_its_own(bench):
                 found[-1:] == [divisor] and "speed 38400 baud" in told, f"{found}{told}")
     found, told = divisors(bench, f"terminal set /dev/{HERE} flags=0; stty -F /dev/{HERE} 115200; stty -F /dev/{HERE} 38400")
     bench.judge("without it, it is 3", found[-1:] == [3], f"{found}{told}")
+
+
+def goes_faster(bench):
+    """With a faster clock there are higher rates, with both drivers."""
+    last = {}
+    for device in OWN, HERE:
+        give(bench, device)
+        bench.run(f"terminal set /dev/{device} baud_base=921600")
+        last[device] = [divisors(bench, f"stty -F /dev/{device} {rate}; stty -F /dev/{device} speed") for rate in (9600, 230400, 921600)]
+        bench.run(f"terminal set /dev/{device} baud_base=115200; stty -F /dev/{device} 115200")
+        # What the kernel says on its console meanwhile, as of an interrupt that came late, stands in front of the speed.
+        last[device] = [(found[-1:], told.split()[-1:]) for found, told in last[device]]
+    bench.judge("with a clock eight times as fast 230,400 and 921,600 baud have their divisors, as with Linux's own driver",
+                last[OWN] == last[HERE] == [([96], ["9600"]), ([4], ["230400"]), ([1], ["921600"])], last)
+
+
+def sets_a_trigger(bench):
+    """From how many characters on the chip interrupts, with both drivers."""
+    told = {}
+    for device in OWN, HERE:
+        give(bench, device)
+        file = f"/sys/class/tty/{device}/rx_trig_bytes"
+        told[device] = written(bench, FCR, f"cat {file}; sleep 1000 < /dev/{device} & for n in 1 4 7 8 13 14 255 0 256 x; do "
+                               f"echo $n > {file}; echo $? $(cat {file}); done 2> /dev/null; kill $!")[1]
+    found, _ = written(bench, FCR, f"(echo 14 > {file}; sleep 0.2) < /dev/{HERE}")
+    bench.judge("rx_trig_bytes says and sets from how many characters on the chip interrupts, as with Linux's own driver",
+                told[OWN] == told[HERE] and found[-2:-1] == [0xC1], f"{told}{found}")
+    bench.run(f"echo 8 > {file}")
+
+
+def has_larger_fifos(bench):
+    """A chip that is a 16750 once it was told: faults.c makes it of the emulator's. The transmitter's FIFO is 64 then."""
+    counts, told = {}, ""
+    for fifos in 16, 64:
+        if fifos == 64:
+            told += bench.run(f"insmod /modules/faults.ko fault=fifos; terminal find /dev/{HERE}; terminal set /dev/{HERE}; "
+                              f"cat /sys/class/tty/{HERE}/xmit_fifo_size")
+        reads, more = accesses(bench, "read", f"stty -F /dev/{HERE} raw -echo 115200 clocal; head -c 6400 /dev/zero > /dev/{HERE}")
+        counts[fifos] = sum(register == 2 for register, _ in reads)
+        told += more
+    bench.here.drain(0.3)
+    good, more = bench.transfer(HERE, 20_000, 20_000)
+    bench.judge("a 16750 is found, is told that its FIFOs are to hold 64, and has bursts of 64",
+                f"type {C16750}," in told and "\n64\n" in told and good and counts[64] < counts[16] / 2, f"{told}{more}{counts}")
+    bench.here.drain(0.3)
+    told = bench.run(f"rmmod faults; insmod /modules/faults.ko fault=fifos; cat /sys/module/faults/parameters/has_64 < /dev/{HERE}")
+    bench.judge("one that has forgotten it is told again when the port is opened", told == "Y\n", told)
+    found = [any(value & AUTO_FLOW for value in written(bench, MCR, f"stty -F /dev/{HERE} {words}")[0])
+             for words in ("crtscts", "-crtscts", "-crtscts")]
+    bench.judge("it does flow control itself while the user wants that", found == [True, True, False], found)
+    told = bench.run(f"rmmod faults; terminal find /dev/{HERE}; terminal set /dev/{HERE}; cat /sys/class/tty/{HERE}/xmit_fifo_size")
+    good, more = bench.transfer(HERE, 2000, 2000)
+    bench.judge("a 16550A is found again, with its FIFOs", f"type {C16550A}," in told and "\n16\n" in told and good, told + more)
 
 
 def loops_back(bench):
@@ -788,7 +897,7 @@ def logs_in(bench):
     bench.here.drain(0.5)
     bench.run("killall getty sh 2> /dev/null")
     bench.judge("login, a command, and a command that is interrupted by ^C",
-                b"/dev/ttyP0" in came and b"bf4fa7116e26846bba3502a134f9bcba" in came and b"still 42" in after, came + after)
+                b"/dev/ttyPV0" in came and b"bf4fa7116e26846bba3502a134f9bcba" in came and b"still 42" in after, came + after)
 
 
 def moves_files(bench):
@@ -908,9 +1017,16 @@ def is_a_console(bench):
     bench.judge("the kernel's lines come whole while a program sends, and all of the program's bytes too",
                 lines == [b"%d" % n for n in range(1, 51)] and rest == (b"abcdefgh\n" * 4000)[:30_000],
                 f"{len(rest)} bytes, and these lines: {b' '.join(lines).decode()}")
-    told = bench.run("rmmod u16550_tty; grep ttyP /proc/interrupts")
+    told = bench.run("rmmod u16550_tty; grep ttyPV /proc/interrupts")
     bench.judge("removed while it is a console, it leaves no handler behind", not told.strip(), told)
     bench.insert("console=1")
+    told = bench.run(f"uname -r; grep {HERE} /proc/consoles")
+    is_new = [int(part) for part in re.match(r"(\d+)\.(\d+)", told).groups()] >= [6, 12]
+    bench.judge("it writes from anywhere at once where Linux can have that", ("N" in told.split("(")[1].split(")")[0]) == is_new, told)
+    told = bench.run("insmod /modules/faults.ko fault=watchdog; echo 7 > /proc/sys/kernel/printk; echo a text > /dev/kmsg; sleep 0.5; "
+                     "echo 3 > /proc/sys/kernel/printk; rmmod faults; dmesg | tail -n 3")
+    found = re.search(r"the watchdog was told (\d+) times", told)
+    bench.judge("it tells the watchdog with each character that all is well", found and int(found[1]) >= len("a text"), told)
 
 
 def gives_up_a_broken_chip(bench):
@@ -937,7 +1053,7 @@ def debugs(bench):
     # The port is open until all this is done, however long that takes.
     bench.run(f"sleep 1000 < /dev/{HERE} & echo $! > /tmp/keeper")
     bench.here.drain(0.3)
-    bench.run("insmod /modules/faults.ko fault=debugger symbol=debugged:read_register")
+    bench.run("insmod /modules/faults.ko fault=debugger module=debugged")
     stop = bench.task(f"stty -F /dev/{HERE} 9600")
     came = bench.here.until(b"stopped\n", 60)
     bench.here.send(b"g")
@@ -948,6 +1064,39 @@ def debugs(bench):
                 came.endswith(b"stopped\ng") and good, f"{came}{told}{more}")
     bench.run("rmmod debugged")
     bench.insert()
+
+
+def packet(text):
+    """What a debugger sends: a text, and the sum of its characters."""
+    return b"$%s#%02x" % (text, sum(text) & 0xFF)
+
+
+def ask(bench, text):
+    """Asks the kernel's debugger something, and returns what it answers."""
+    bench.here.send(packet(text))
+    came, end = b"", CLOCK.now() + 20
+    while not (found := re.search(rb"\$([^#]*)#..", came)) and CLOCK.now() < end:
+        came += bench.here.take(0.2)
+    bench.here.send(b"+")
+    return found[1] if found else came
+
+
+def talks_to_gdb(bench):
+    """The kernel is stopped, and a debugger looks at it over the port, in the protocol of gdb."""
+    banner = bench.run("grep ' linux_banner$' /proc/kallsyms").split()[0].encode()
+    bench.run(f"stty -F /dev/{HERE} raw -echo 115200; sleep 1000 < /dev/{HERE} & echo $! > /tmp/keeper; "
+              f"echo {HERE} > /sys/module/kgdboc/parameters/kgdboc")
+    bench.here.drain(0.3)
+    # Not before the shell has said that it is done.
+    task = bench.task("sleep 2; echo g > /proc/sysrq-trigger")
+    bench.here.drain(5)
+    why, registers, text = ask(bench, b"?"), ask(bench, b"g"), ask(bench, b"m%s,d" % banner)
+    ended = ask(bench, b"D")
+    told = task.result() + bench.run("echo > /sys/module/kgdboc/parameters/kgdboc; kill $(cat /tmp/keeper); usleep 200000")
+    good, moved = bench.transfer(HERE, 500, 500)
+    bench.judge("a debugger stops the kernel, reads its registers and its memory over the port, and lets it go on",
+                why[:1] in (b"S", b"T") and len(registers) > 100 and bytes.fromhex(text.decode()) == b"Linux version" and ended == b"OK" and good,
+                f"{why}{registers}{text}{ended}{told}{moved}")
 
 
 def is_removed_while_busy(bench):
@@ -961,6 +1110,24 @@ def is_removed_while_busy(bench):
     bench.judge("the kernel and the driver have found nothing wrong until here", not wrong, "\n".join(wrong))
 
 
+def is_silent(bench):
+    """What a kernel that looks after itself has found until here. It looks at locks no more once it has found something."""
+    told = bench.run("rmmod u16550_tty; grep debug_locks /proc/lockdep_stats")
+    wrong = bench.wrong()
+    bench.judge("the kernel has found no memory that is not the module's, and no lock out of order, and still looks",
+                re.search(r"debug_locks: +1\n", told) and not wrong, "\n".join([told, *wrong]))
+
+
+def finds_what_is_planted(bench):
+    bench.insert()
+    # In this order: who has found memory that was freed looks at locks no more.
+    told = bench.run("dmesg -c > /dev/null; for fault in locked freed; do insmod /modules/faults.ko fault=$fault; rmmod faults; done; "
+                     "dmesg -c")
+    bench.judge("it finds memory that was freed, and a lock out of order, where they are planted",
+                "BUG: KASAN" in told and "possible recursive locking" in told, told)
+    bench.run("rmmod u16550_tty")
+
+
 def writes_in_a_panic(bench):
     """Ends the guest, and comes last."""
     bench.insert("console=1")
@@ -972,14 +1139,14 @@ def writes_in_a_panic(bench):
                 came.count(b"in the middle of a call") == 2 and b" u16550_init_with+" in came and b" startup+" in came, came)
 
 
-QUICK = (takes_no_port_of_another, finds_chips, belongs_to_a_device, is_unbound, has_a_card, is_pulled_out, shares_an_interrupt,
-         needs_no_interrupt, loses_interrupts, moves_a_port, finds_no_chip, is_another_chip, has_a_divisor_of_its_own, loops_back,
-         moves_bytes, sets_rates, changes_speed, has_modem_lines, times_pulses, waits_for_cts, sends_at_a_bus, sends_breaks, marks_breaks,
-         obeys_xoff, logs_in, is_a_console, gives_up_a_broken_chip, is_removed_while_busy, writes_in_a_panic)
-WHOLE = (takes_no_port_of_another, finds_chips, belongs_to_a_device, is_unbound, has_a_card, is_pulled_out, shares_an_interrupt,
-         needs_no_interrupt, loses_interrupts, moves_a_port, finds_no_chip, is_another_chip, has_a_divisor_of_its_own, loops_back,
-         moves_bytes, sets_rates, opens_and_closes, changes_speed, changes_speed_while_receiving, has_modem_lines, times_pulses,
-         waits_for_cts, sends_at_a_bus, sends_breaks, marks_breaks, obeys_xoff, sends_xoff, hangs_up, logs_in, moves_files, carries_ip,
+QUICK = (takes_no_port_of_another, finds_chips, has_an_early_console, belongs_to_a_device, is_unbound, has_a_card, is_pulled_out, shares_an_interrupt,
+         needs_no_interrupt, loses_interrupts, moves_a_port, finds_no_chip, is_another_chip, has_a_divisor_of_its_own, goes_faster, sets_a_trigger,
+         has_larger_fifos, loops_back, moves_bytes, sets_rates, changes_speed, has_modem_lines, times_pulses, waits_for_cts, sends_at_a_bus,
+         sends_breaks, marks_breaks, obeys_xoff, logs_in, is_a_console, gives_up_a_broken_chip, is_removed_while_busy, writes_in_a_panic)
+WHOLE = (takes_no_port_of_another, finds_chips, has_an_early_console, belongs_to_a_device, is_unbound, has_a_card, is_pulled_out, shares_an_interrupt,
+         needs_no_interrupt, loses_interrupts, moves_a_port, finds_no_chip, is_another_chip, has_a_divisor_of_its_own, goes_faster, sets_a_trigger,
+         has_larger_fifos, loops_back, moves_bytes, sets_rates, opens_and_closes, changes_speed, changes_speed_while_receiving, has_modem_lines,
+         times_pulses, waits_for_cts, sends_at_a_bus, sends_breaks, marks_breaks, obeys_xoff, sends_xoff, hangs_up, logs_in, moves_files, carries_ip,
          compares, leaves_processors_asleep, debugs, is_a_console, gives_up_a_broken_chip, is_removed_while_busy, writes_in_a_panic)
 
 # Checks of a machine that sleeps have a guest of their own, with one processor: an emulated PC with two may wake up broken. When it wakes,
@@ -992,11 +1159,14 @@ WHOLE = (takes_no_port_of_another, finds_chips, belongs_to_a_device, is_unbound,
 # Linux's own driver alone. It was none with one processor, with two in one thread of QEMU, with QEMU 10, or with Linux 6.1.
 ASLEEP = (hears_after_sleep,)
 
+# Those in a kernel that looks after itself, which has no network.
+DEBUG = (*QUICK[:-2], talks_to_gdb, is_removed_while_busy, is_silent, finds_what_is_planted, writes_in_a_panic)
 
 # Those of a PC whose firmware switches a port on and off, and of a board with a device tree.
 SWITCHED = (is_switched_by_firmware,)
 COUNTED = (costs,)
-BOARD = (is_in_a_device_tree, sets_rates, opens_and_closes, changes_speed, loops_back, marks_breaks, obeys_xoff, logs_in, is_given_back)
+BOARD = (flows_by_itself, is_in_a_device_tree, has_a_device_below, sets_rates, opens_and_closes, changes_speed,
+         loops_back, marks_breaks, obeys_xoff, logs_in, is_given_back)
 
 
 def make(checks, machine):
@@ -1031,6 +1201,9 @@ def machines(given):
 
     if given.tree:
         return [(lambda: Board(given, work("board")), BOARD)]
+    if given.debug:
+        return [(lambda: Ports(given, work("ports"), 2), DEBUG),
+                (lambda: Switched(given, work("switched")), (*SWITCHED, is_silent) if given.firmware else ())]
     return [(lambda: Ports(given, work("ports"), 2), WHOLE if given.whole or given.only else QUICK),
             (lambda: Switched(given, work("switched")), SWITCHED if given.firmware else ()),
             (lambda: Counted(given, work("counted")), COUNTED if given.whole or given.only else ()),
@@ -1040,6 +1213,7 @@ def machines(given):
 def main():
     parser = argparse.ArgumentParser()
     parser.add_argument("--whole", action="store_true")
+    parser.add_argument("--debug", action="store_true")
     parser.add_argument("--only", help="the names of checks, with commas")
     parser.add_argument("--lines", help="what lines.c is built into")
     parser.add_argument("--firmware", help="what firmware.asl is built into")

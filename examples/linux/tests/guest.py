@@ -19,6 +19,11 @@ def stream(count, seed):
     return bytes((n * 167 + (n >> 8) * 13 + (n >> 16) * 7 + seed) & 0xFF for n in range(count))
 
 
+def terminal(device):
+    """A command that prints the terminal of a device, which is some folders below it in a newer kernel."""
+    return f"find {device}/ -path '*/tty/tty*' -prune 2> /dev/null | sed 's,.*/,,'"
+
+
 class Unexpected(Exception):
     """What the guest did otherwise."""
 
@@ -156,6 +161,17 @@ class Machine(NamedTuple):
 # the board's own.
 PC = Machine(["qemu-system-x86_64", "-cpu", "max", "-m", "512"], ["-device", "pci-serial,chardev=shell"],
              "no_timer_check earlyprintk=pciserial,00:02.0,115200")
+
+
+def board(more, work):
+    """The board that QEMU calls `virt`, with what is added to its device tree. Its shell is at a port of another kind."""
+    emulator = ["qemu-system-aarch64", "-cpu", "cortex-a72", "-m", "512"]
+    subprocess.run([*emulator, "-smp", "2", "-machine", f"virt,dumpdtb={work}/own.dtb"], check=True, capture_output=True)
+    told = subprocess.run(["dtc", "-q", "-I", "dtb", "-O", "dts", f"{work}/own.dtb"], check=True, capture_output=True).stdout
+    with open(more, "rb") as file:
+        told += file.read()
+    subprocess.run(["dtc", "-q", "-I", "dts", "-O", "dtb", "-o", f"{work}/tree.dtb", "-"], input=told, check=True)
+    return Machine([*emulator, "-machine", "virt", "-dtb", f"{work}/tree.dtb"], ["-serial", "chardev:shell"], "")
 
 
 class Guest:

@@ -17,7 +17,7 @@
  * find DEVICE                            lets the driver find out which chip this is
  * chip DEVICE TYPE IRQ                   sets the type of the chip, as linux/serial_core.h has it, and the interrupt; 0 is none
  * discipline DEVICE NUMBER               sets the line discipline, as 18 for kernel PPS, and keeps the port open until it is ended
- * set DEVICE NAME=NUMBER..               sets these of type, port, irq, flags and divisor, as setserial does, and prints all of them
+ * set DEVICE NAME=NUMBER..               sets these of type, port, irq, flags, divisor and baud_base, as setserial does, and prints some
  *
  * A transfer ends when nothing has moved for ten seconds, and it has looked for something as often as it does in so long: while the machine
  * sleeps, or has no time for the emulator, it does not look. Each command says `ready` when the port is open, and prints one line at its end.
@@ -39,7 +39,7 @@
 #include <time.h>
 #include <unistd.h>
 
-enum { SENT = 3, RECEIVED = 9, PATIENCE = 10, RATE = 115200 };
+enum { SENT = 3, RECEIVED = 9, PATIENCE = 10, RATE = 115200, FIFO = 16 };
 /* How many milliseconds a look takes if there is nothing. */
 enum { LOOK = 200, SHORT_LOOK = 50 };
 
@@ -307,7 +307,8 @@ static void loop(int port, int bytes)
     ready(port);
     memset(out, 'l', sizeof out);
     for (last = now(); came < bytes && now() - last < 1;) {
-        if (sent < bytes && (count = write(port, out, bytes - sent < 40 ? bytes - sent : 40)) > 0)
+        /* No more at once than a FIFO holds: on a busy machine a driver comes too late for what is sent meanwhile. */
+        if (sent < bytes && came == sent && (count = write(port, out, bytes - sent < FIFO ? bytes - sent : FIFO)) > 0)
             sent += count;
         while ((count = read(port, in, sizeof in)) > 0) {
             came += count;
@@ -441,6 +442,8 @@ static void set_fields(int port, int count, char **fields)
             serial.flags = number;
         else if (value && !strncmp(fields[i], "divisor=", 8))
             serial.custom_divisor = number;
+        else if (value && !strncmp(fields[i], "baud_base=", 10))
+            serial.baud_base = number;
         else {
             fprintf(stderr, "terminal: no such field: %s\n", fields[i]);
             exit(1);
