@@ -4,12 +4,16 @@
 //! test.
 #![tactic(auto)]
 
+pub mod bus;
 pub mod chip;
+pub mod design_ware;
 pub mod device;
+pub mod discovery;
 pub mod driver;
 pub mod judging;
 pub mod language;
 pub mod live;
+pub mod original;
 pub mod performing;
 pub mod playing;
 mod port;
@@ -22,6 +26,7 @@ pub mod spec;
 mod tests;
 pub mod tracing;
 pub mod virtual_port;
+pub mod waiting;
 
 use bitflags::Flags;
 use port::{PortError, ask, open};

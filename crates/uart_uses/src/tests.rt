@@ -1,12 +1,14 @@
-//! Each caller is run once, with what its contract says about the run, and laws are called. In
-//! modules are a monitor and the tests of the rings, with the handler of the documentation.
+//! Each caller is run once, with what its contract says about the run, and laws are called. Not run
+//! are those of DesignWare, of whose registers there are none here, and of who waits: nobody can
+//! let such a place go. In modules are a monitor and the tests of the rings, with the handler of
+//! the documentation.
 
 mod monitor;
 mod rings;
 
 use crate::{
-    chip, device, driver, judging, language, live, performing, playing, ring, ring_running,
-    ring_starting, running, spec, tracing,
+    bus, chip, device, discovery, driver, judging, language, live, original, performing, playing,
+    ring, ring_running, ring_starting, running, spec, tracing,
 };
 use arrayvec::ArrayVec;
 use bitflags::Flags;
@@ -17,6 +19,7 @@ use uart_16550::{DEFAULT_SPIN_LIMIT, Uart16550, Uart16550Tty};
 use uart_calls::laws::meanings_leave_no_choice;
 use uart_calls::{Answer, Call};
 use uart_chip::{Chip, Device16550, Uart};
+use uart_discovery::PortDescription;
 use uart_live::LiveChip;
 use uart_live::laws::{
     bytes_leave_in_order, characters_are_read_in_order, plain_reads_change_nothing,
@@ -25,10 +28,11 @@ use uart_play::Std;
 use uart_play::laws::{runs_have_one_outcome, scripts_have_one_output};
 use uart_ring::Uart16550Ring;
 use uart_ring_runs::{RingAnswer, RingCall};
+use uart_rs485::{Direction, DirectionLine, HalfDuplex};
 use uart_run::laws::{idle_keeps_ready, smallest_size_fits};
 use uart_spec::access::Access;
 use uart_spec::registers::{LSR, offsets};
-use uart_spec::{BaudRate, Config, FifoSize, NUM_REGISTERS};
+use uart_spec::{BaudRate, ByteOrder, Config, FifoSize, InitError, NUM_REGISTERS};
 
 // Returns a driver that has initialised a chip at which a byte arrives.
 fn ready_driver(rt: &HostRuntime) -> Result<Uart16550<Device16550>, Fail> {
@@ -53,6 +57,34 @@ fn a_line_of_a_log(rt: HostRuntime) -> Result<(), Fail> {
         6,
     );
     Ok(())
+}
+
+#[test]
+fn a_stall_of_an_init(rt: HostRuntime) {
+    assert!(rt; original::may_wait_on(InitError::Stalled));
+    assert!(rt; !original::may_wait_on(InitError::DeviceNotPresent));
+}
+
+#[test]
+fn a_bus_that_is_given_back(rt: HostRuntime) -> Result<(), Fail> {
+    let direction = Direction {
+        line: DirectionLine::Rts,
+        sends_when_set: true,
+    };
+    let Ok(mut half_duplex) = HalfDuplex::new(ready_driver(&rt)?, direction) else {
+        assert!(rt; false, "the transmitter is not empty");
+        return Ok(());
+    };
+    half_duplex.start_sending();
+    assert!(rt; bus::give_back(&mut half_duplex).is_ok());
+    Ok(())
+}
+
+#[test]
+fn a_port_of_an_option(rt: HostRuntime) {
+    let port = discovery::port_of_option(b"uart8250,io,0x3f8,115200", ByteOrder::Little);
+    assert!(rt; matches!(port, Ok(PortDescription { base: 0x3f8, .. })));
+    assert!(rt; discovery::port_of_option(b"uart8250,io", ByteOrder::Little).is_err());
 }
 
 #[test]
