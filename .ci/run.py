@@ -3,9 +3,9 @@
 What documents say and quote, and how long lines are; whether what ships stands alone; whether pictures and the Rust packages are what the
 repository makes; then every proof, every test and program of the proved crates, and beside them the tests of the eraser and of the Rust
 packages, their documentation, the page in a browser, and the commands of the READMEs, which need no proof; and then side by side what needs
-what was proved: refused memory, uart_port on an emulated PC, the programs, the emitted Rust compared with the proved MIR, the C made of it,
-kernels and U-Boot over that, the wrong bodies of the gate, the example monitors, the tty driver in Linux, Linux on the device for monitors,
-the library for C, and the Rust packages compared with it.
+what was proved: what laws ask for, refused memory, uart_port on an emulated PC, the programs, the emitted Rust compared with the proved MIR,
+the C made of it, kernels and U-Boot over that, the wrong bodies of the gate, the example monitors, the tty driver in Linux, Linux on the
+device for monitors, the library for C, and the Rust packages compared with it.
 
 A command that passed on this machine with the same files, tools and kit is not run again: its line names it and says what it counted then.
 `rt ci` is always run, and decides by itself what it keeps. With CI=true, as the machine has it that lands changes, or CI=full everything is
@@ -115,6 +115,7 @@ COMMANDS = [
     over("tools/c/compare driver", nice=19),
     over("tools/c/compare console", nice=19),
     over("tools/c/compare port", after=[C, CODE_OF_C], nice=19),
+    Command(".ci/premises", after=[CI], always=True, nice=19),
     # Nothing waits for these, and they take all cores.
     Command(".ci/wrong-bodies --after-ci --in-the-gate", after=[CI], always=True, nice=19),
     beside("integration/c-kernels", without=OF_RUST, needs="compilers and emulators of its boards"),

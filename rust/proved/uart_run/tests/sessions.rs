@@ -7,7 +7,7 @@ use core::num::NonZeroU64;
 use geesetrunk_kit::alloc::Global;
 use premises::{Begin, is_within_session, keeps_checks, keeps_size};
 use proved_uart_run::run;
-use uart_16550::{Uart16550, Uart16550Tty};
+use uart_16550::{Patience, Uart16550, Uart16550Tty};
 use uart_calls::{Answer, Call, perform};
 use uart_chip::{Chip, Device16550, Event};
 use uart_spec::registers::{LSR, MCR};
@@ -274,4 +274,89 @@ fn calls_that_stand_for_another_one_do_what_it_does() {
         ..Config::DEFAULT
     };
     compare(|one| one.checked_init(without_clock()).is_err(), |_| true);
+}
+
+/// A caller that waits for so many questions.
+struct Questions(usize);
+
+impl Patience for Questions {
+    fn keep_waiting(&mut self) -> bool {
+        self.0 = self.0.saturating_sub(1);
+        self.0 > 0
+    }
+}
+
+/// Asks until something is there, or the caller has had enough, or the spin limit is reached.
+fn in_turn<T>(questions: &mut Questions, mut ask: impl FnMut() -> Option<T>) -> Option<T> {
+    for _ in 0..LIMIT {
+        if let Some(found) = ask() {
+            return Some(found);
+        }
+        if !questions.keep_waiting() {
+            return None;
+        }
+    }
+    None
+}
+
+#[test]
+fn calls_that_stand_for_others_in_turn_do_what_these_do() {
+    for most in [0, 1, 3, 20, 200] {
+        compare(
+            |one| {
+                one.send_bytes_while(&[7; 40], &mut Questions(most))
+                    .map_err(|stall| stall.done)
+            },
+            |one| {
+                let (mut done, mut questions) = (0, Questions(most));
+                while done < 40 {
+                    let sent = |count| (count > 0).then_some(count);
+                    let left = &[7; 40][done..];
+                    done += in_turn(&mut questions, || sent(one.send_bytes(left))).ok_or(done)?;
+                }
+                Ok(())
+            },
+        );
+        compare(
+            |one| {
+                let mut slots = [0; 3];
+                let stalled = one.receive_bytes_while(&mut slots, &mut Questions(most));
+                (stalled.map_err(|stall| stall.done), slots)
+            },
+            |one| {
+                let (mut slots, mut questions) = ([0; 3], Questions(most));
+                for done in 0..3 {
+                    match in_turn(&mut questions, || one.try_receive_byte().ok()) {
+                        Some(byte) => slots[done] = byte,
+                        None => return (Err(done), slots),
+                    }
+                }
+                (Ok(()), slots)
+            },
+        );
+        compare(
+            |one| {
+                one.send_bytes(&[7; 3]);
+                one.flush_while(&mut Questions(most)).is_ok()
+            },
+            |one| {
+                one.send_bytes(&[7; 3]);
+                in_turn(&mut Questions(most), || one.is_idle().then_some(())).is_some()
+            },
+        );
+    }
+    // A text that is longer than a call's. It has room for 64 bytes, so that it stalls.
+    let text = "0123456789".repeat(8);
+    compare(
+        |one| of_a_terminal(one, |tty| tty.write_text(&text)).map_err(|stall| stall.done),
+        |one| {
+            for (done, byte) in text.bytes().enumerate() {
+                let sent = |count: usize| (count > 0).then_some(());
+                let is_there =
+                    in_turn(&mut Questions(usize::MAX), || sent(one.send_bytes(&[byte])));
+                is_there.ok_or(done)?;
+            }
+            Ok(())
+        },
+    );
 }

@@ -8,6 +8,7 @@ mod idle;
 mod live;
 mod machines;
 mod paths;
+mod ring_random;
 mod ring_sessions;
 mod rings;
 mod schedules;
