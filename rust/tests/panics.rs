@@ -24,7 +24,7 @@ use uart_16550::ring::{
     ErrorNotes, Global, Handled, LinePort, LinePorts, Lowered, Memory, ReceiveMarks, RingError, StuckError, Uart16550Ring, UnnotedError,
 };
 use uart_16550::rs485::{BusyError, Direction, EchoError, HalfDuplex, HalfDuplexRing, NotSendingError, SendError};
-use uart_16550::shared::{CriticalSection, Shared, SharedError, SharedLine, StartError, Unfinished, Wait};
+use uart_16550::shared::{CriticalSection, PortOfLine, Shared, SharedError, SharedLine, StartError, Unfinished, Wait};
 use uart_16550::spec::registers::{
     DLL, DLM, FCR, FifoTriggerLevel, IER, ISR, InterruptType, LCR, LSR, MCR, MSR, PSD, Parity, SPR,
     WordLength,
@@ -59,6 +59,7 @@ impl CriticalSection for Section {
 
 type Port = Shared<Section, Device>;
 type Line = SharedLine<Section, Device, 4>;
+type OfLine<'a> = PortOfLine<'a, Section, Device, 4>;
 
 /// A line with one port.
 pub struct One(LinePort<Device>);
@@ -314,9 +315,16 @@ calls! {
     line_handle(line: &Line, limit: usize, rounds: u32) -> Result<bool, SharedError> { line.handle(limit, rounds) }
     line_handled(line: &Line, port: usize) -> Result<Handled, SharedError> { line.handled(port) }
     line_with_port(line: &Line, port: usize) -> Result<usize, SharedError> { line.with_port(port, |ring| ring.transmit_len()) }
+    line_port(line: &Line, port: usize) -> OfLine<'_> { line.port(port) }
+    port_of_line_with(port: OfLine<'_>) -> Result<usize, SharedError> { port.with(|ring| ring.transmit_len()) }
+    port_of_line_poll_read(port: OfLine<'_>, context: &mut Context<'_>, slots: &mut [u8]) -> Poll<Result<usize, SharedError>> { port.poll_read(context, slots) }
+    port_of_line_poll_write(port: OfLine<'_>, context: &mut Context<'_>, bytes: &[u8]) -> Poll<Result<usize, SharedError>> { port.poll_write(context, bytes) }
+    port_of_line_blocking_read(port: OfLine<'_>, slots: &mut [u8]) -> Result<usize, SharedError> { port.blocking(Once).read(slots) }
+    port_of_line_blocking_flush(port: OfLine<'_>) -> Result<(), SharedError> { port.blocking(Once).flush() }
 
     shared_start(port: &Port, memory: Global<'_>, uart: Uart) -> Result<(), (Uart, StartError)> { port.start(memory, uart, 64, 64) }
     shared_stop(port: &Port) -> Result<Ring, SharedError> { port.stop() }
+    shared_handle(port: &Port, limit: usize) -> Result<Handled, SharedError> { port.handle(limit) }
     shared_with(port: &Port) -> Result<usize, SharedError> { port.with(|ring| ring.transmit_len()) }
     shared_poll_read(port: &Port, context: &mut Context<'_>, slots: &mut [u8]) -> Poll<Result<usize, SharedError>> { port.poll_read(context, slots) }
     shared_poll_write(port: &Port, context: &mut Context<'_>, bytes: &[u8]) -> Poll<Result<usize, SharedError>> { port.poll_write(context, bytes) }
