@@ -5,8 +5,8 @@ use std::convert::Infallible;
 use uart_16550_chip::registers::{FCR, IER, LSR, offsets};
 use uart_16550_chip::serial::Error;
 use uart_16550_chip::{
-    Chip, ChipError, FifoSize, LiveChip, LiveChipWith, NoEvents, Serial, Trigger, VirtualPort,
-    VirtualPortWith, WIRE_ROOM, settle,
+    Chip, ChipError, FifoSize, LiveChip, LiveChipWith, NoEvents, Output, Serial, Trigger,
+    VirtualPort, VirtualPortWith, WIRE_ROOM, settle,
 };
 
 const DATA: u8 = offsets::DATA as u8;
@@ -201,12 +201,25 @@ impl Trigger for Line {
     }
 }
 
-type Device<const FIFO: usize> = Serial<Line, NoEvents, Vec<u8>, FIFO>;
+/// What a guest printed. A `Vec` is an output only where there is `std`.
+#[derive(Default)]
+struct Printed(Vec<u8>);
+
+impl Output for Printed {
+    type Error = Infallible;
+
+    fn write_bytes(&mut self, bytes: &[u8]) -> Result<usize, Infallible> {
+        self.0.extend(bytes);
+        Ok(bytes.len())
+    }
+}
+
+type Device<const FIFO: usize> = Serial<Line, NoEvents, Printed, FIFO>;
 
 // A FIFO of input is one signal for a handler that drains, and what a guest writes at one interrupt one more, whatever the size.
 fn is_a_device<const FIFO: usize>() {
     let mut serial: Device<FIFO> =
-        Serial::try_with_events(Line::default(), NoEvents, Vec::new()).unwrap();
+        Serial::try_with_events(Line::default(), NoEvents, Printed::default()).unwrap();
     assert_eq!((serial.read(3), serial.read(4)), (0x03, 0x08));
     assert_eq!((serial.settings().divisor, serial.fifo_capacity()), (12, 1));
     serial.set_handler_drains(true).unwrap();
@@ -229,7 +242,7 @@ fn is_a_device<const FIFO: usize>() {
     assert_eq!(serial.read(ISR_OFFSET), 0xc2);
     serial.write_bytes(DATA, &input).unwrap();
     assert_eq!((serial.interrupt_evt().0.get(), serial.overflows()), (3, 0));
-    assert_eq!(serial.into_parts().2, input);
+    assert_eq!(serial.into_parts().2.0, input);
 }
 
 #[test]
@@ -239,6 +252,7 @@ fn a_device_has_fifos_of_each_size() {
     is_a_device::<64>();
     is_a_device::<128>();
     is_a_device::<256>();
-    let none = Serial::<_, _, _, 48>::try_with_events(Line::default(), NoEvents, Vec::new());
+    let none =
+        Serial::<_, _, _, 48>::try_with_events(Line::default(), NoEvents, Printed::default());
     assert_eq!(none.err(), Some(ChipError::BadFifo));
 }
