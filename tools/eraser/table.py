@@ -484,6 +484,14 @@ GUARDS["uart_virtual::port::finish"] = Guard(
 GUARDS["uart_virtual::port::nothing_new"] = Guard(
     ["requires told { IsTold (record { chip = chip.now; told = told }) }", "requires paced { IsPaced chip.now }"], reason=IN_FILE
 )
+GUARDS["uart_virtual::port::tell_more"] = Guard(
+    [
+        "requires paced { IsPaced chip.now }",
+        "requires told { IsTold (record { chip = chip.now; told = told.old }) }",
+        "requires up { is_up chip.now ≡ true }",
+    ],
+    reason=IN_FILE,
+)
 for name in ("finish_unmoved", "finish_read"):
     GUARDS[f"uart_virtual::port::{name}"] = Guard(["requires paced { IsPaced chip.old }", "requires unmoved { IsUnmoved chip.old }"], reason=IN_FILE)
 GUARDS["uart_virtual::port::send"] = Guard(

@@ -12,4 +12,5 @@ mod Quiet
 mod Passes
 mod Polls
 mod Masks
+mod More
 pub mod Sizes

@@ -349,6 +349,28 @@ fn nothing_new<const FIFO: usize>(chip: &LiveChipWith<FIFO>, told: Told) -> Todo
     }
 }
 
+// Returns what is to be told after a read of DATA that left a character, and notes that it was
+// told. The line is up before and after, and the room is as it was told. If the line was up all the
+// time, nothing is new.
+#[inline(always)]
+fn tell_more<const FIFO: usize>(chip: &LiveChipWith<FIFO>, was_up: bool, told: &mut Told) -> Todo
+    requires paced { IsPaced chip.now }
+    requires told { IsTold (record { chip = chip.now; told = told.old }) }
+    requires up { is_up chip.now ≡ true }
+    ensures holds { IsTold (record { chip = chip.now; told = told.new }) }
+    ensures told { told.new ≡
+        tell (kind_of (Read offsets.DATA) chip.now) was_up chip.now told.old }
+    ensures todo { result ≡
+        todo_of (kind_of (Read offsets.DATA) chip.now) was_up chip.now told.old }
+{
+    if was_up {
+        nothing_new(chip, *told)
+    } else {
+        let kind = kind_of_read(offsets::DATA as u8);
+        decide_at(chip, true, was_up, told, kind)
+    }
+}
+
 // Lets the time of a call pass, and returns what is to be told.
 #[inline(never)]
 fn finish<const FIFO: usize>(
@@ -682,10 +704,10 @@ impl<const FIFO: usize> VirtualPortWith<FIFO> {
         //   `todo` says has to be done: a read of LSR that shows no error; a byte that meets an
         //   idle transmitter and that the host takes at once; a byte of input, and a read of DATA,
         //   while no interrupt is enabled; with the interrupt of received characters enabled, a
-        //   byte of input while none waits; a read of DATA that takes the last character. One that
-        //   refuses changes nothing
+        //   byte of input while none waits, and a read that leaves a character; a read of DATA that
+        //   takes the last character. One that refuses changes nothing
         // on: `read_clear_status`, `passing`, `pass`, `receive_polled`, `read_polled`,
-        //   `receive_first` and `read_last` of `VirtualPort`
+        //   `receive_first`, `read_last` and `read_more` of `VirtualPort`
         ensures value { result ≡ clear_status self.old.chip }
         ensures read { is_some result ≡ true → self.new ≡ port.after (Read offsets.LSR) self.old }
         ensures todo { is_some result ≡ true →
@@ -757,6 +779,44 @@ impl<const FIFO: usize> VirtualPortWith<FIFO> {
         LiveChipWith::expire_timeout(&mut self.chip);
         let kind = kind_of_read(offsets::DATA as u8);
         let todo = decide_at(&self.chip, level, level, &mut self.told, kind);
+        Some(Answer { value, todo })
+    }
+
+    // Returns whether a read of DATA leaves a character, and the guest has the interrupt of
+    // received characters enabled.
+    #[inline]
+    fn reads_more(&self) -> bool
+        ensures { result ≡ port.reads_more self.now }
+    {
+        let is_on = self.chip.has_input_interrupt_on();
+        is_on && (1 < self.chip.waiting_len() && !self.chip.is_dlab_set())
+    }
+
+    /// Reads DATA for the guest, if more than one character waits, and the guest has the interrupt
+    /// of received characters enabled. Returns its value, and what the monitor has to do. Otherwise
+    /// returns `None`, and nothing changes.
+    ///
+    /// The value, the effect and what has to be done are those of [`VirtualPortWith::read`].
+    // A character that waits takes the line up when the call ends, and it was up before. A FIFO of
+    // which a character was read has room, if it had. So the chip is asked only whether the line
+    // fell meanwhile, and mostly it did not.
+    #[inline]
+    pub fn read_more(&mut self) -> Option<Answer>
+        ensures more { is_some result ≡ port.reads_more self.old }
+        ensures value { (answer : Answer) → result ≡ Some answer →
+            answer.value ≡ spec.answer offsets.DATA self.old.chip }
+        ensures read { is_some result ≡ true → self.new ≡ port.after (Read offsets.DATA) self.old }
+        ensures todo { (answer : Answer) → result ≡ Some answer →
+            answer.todo ≡ port.todo (Read offsets.DATA) self.old }
+        ensures left { is_some result ≡ false → self.new ≡ self.old }
+    {
+        if !self.reads_more() {
+            return None;
+        }
+        let value = self.chip.read_data();
+        let was_up = self.chip.is_interrupting();
+        LiveChipWith::expire_timeout(&mut self.chip);
+        let todo = tell_more(&self.chip, was_up, &mut self.told);
         Some(Answer { value, todo })
     }
 
@@ -923,9 +983,11 @@ impl<const FIFO: usize> VirtualPortWith<FIFO> {
     pub fn receive_first(&mut self, byte: u8) -> Option<Todo>
         // promise: the short ways of a guest with interrupts do what the calls do for which they
         //   stand
-        // with: receive_first.received, receive_first.todo, read_last.read, read_last.todo
+        // with: receive_first.received, receive_first.todo, read_last.read, read_last.todo,
+        //   read_more.read, read_more.todo
         // shown by: each_call_does_what_its_definition_says
-        // refused: a_first_byte_is_no_rise, a_last_read_takes_the_line_down
+        // refused: a_first_byte_is_no_rise, a_last_read_takes_the_line_down,
+        //   a_fall_before_the_last_read_is_missed
         ensures first { is_some result ≡ port.receives_first self.old }
         ensures received { is_some result ≡ true →
             self.new ≡ port.after (Receive (byte ∷ [])) self.old }
