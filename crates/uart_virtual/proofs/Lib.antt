@@ -13,4 +13,5 @@ mod Passes
 mod Polls
 mod Masks
 mod More
+mod Looks
 pub mod Sizes

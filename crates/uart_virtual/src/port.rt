@@ -1,5 +1,5 @@
 //! The port: how each call is carried out, and what is told of it.
-ghost use Rattle.std.specs.Prelude.{◌≡◌, ◌≢◌, ◌<◌, ◌≤◌, length, min, take, bit_and, Err, IfOk, IsOk, Ok, ◌==◌, true, false, ℕ};
+ghost use Rattle.std.specs.Prelude.{◌≡◌, ◌≢◌, ◌<◌, ◌≤◌, length, min, take, bit_and, bit_or, Err, IfOk, IsOk, Ok, ◌==◌, true, false, ℕ};
 ghost use Rattle.std.specs.Prelude.{Some, is_some, [], ◌∷◌, ◌&&◌, ◌||◌};
 ghost use Rattle.uart_chip.specs.Chip as spec;
 ghost use Rattle.uart_chip.specs.Chip.{ChipState};
@@ -9,9 +9,10 @@ ghost use Rattle.uart_live.specs.Live.{IsLive};
 ghost use Rattle.uart_live.specs.Quick.{clear_status, when_due};
 ghost use Rattle.uart_live.specs.Size.{fifo_size, is_size};
 ghost use Rattle.uart_live.specs.declared.errors.ChipError.{ChipError};
-ghost use Rattle.uart_spec.specs.Bits.{IsWithin};
+ghost use Rattle.uart_spec.specs.Bits.{IsWithin, flag};
 ghost use Rattle.uart_live.specs.declared.errors.InputError.{InputError};
 ghost use Rattle.uart_spec.specs.declared.baud.TheConstants.{NUM_REGISTERS};
+ghost use Rattle.uart_spec.specs.declared.registers.interrupt_status.TheConstants.ISR;
 ghost use Rattle.uart_spec.specs.declared.registers.line_status.TheConstants.LSR;
 ghost use Rattle.uart_spec.specs.declared.registers.modem_status.TheConstants.MSR;
 ghost use Rattle.uart_virtual.specs.Port as port;
@@ -29,7 +30,7 @@ use bitflags::Flags;
 pub use snapshot::Restored;
 use std::marker::Model;
 use uart_live::{Chip, ChipError, InputError, LiveChipWith, WIRE_ROOM};
-use uart_spec::registers::{LSR, MSR, offsets};
+use uart_spec::registers::{ISR, LSR, MSR, offsets};
 use uart_spec::{FIFO_SIZE, FifoSize};
 
 // The ticks that a character takes.
@@ -445,13 +446,9 @@ fn is_quiet(offset: u8, value: u8) -> bool
     }
 }
 
-// Reads a register, and lets the time of a call pass.
+// Does the same as `read`, whatever the line is.
 #[inline]
-fn read<const FIFO: usize>(chip: &mut LiveChipWith<FIFO>, offset: u8, told: &mut Told) -> Answer
-    // proved: Each call leaves exactly the port that `after` says, and returns exactly the `Todo`
-    //   of `todo`; a read returns what the chip's definitions answer, and input is received from
-    //   the front as far as there is room
-    // on: `read`, `write`, `receive`, `receive_one`, `set_lines` and `take_output` of `VirtualPort`
+fn read_any<const FIFO: usize>(chip: &mut LiveChipWith<FIFO>, offset: u8, told: &mut Told) -> Answer
     requires offset { offset < NUM_REGISTERS }
     requires told { IsTold (record { chip = chip.old; told = told.old }) }
     requires still { IsStill chip.old }
@@ -473,6 +470,81 @@ fn read<const FIFO: usize>(chip: &mut LiveChipWith<FIFO>, offset: u8, told: &mut
     } else {
         let todo = finish_read(chip, told, kind_of_read(offset));
         Answer { value, todo }
+    }
+}
+
+// Returns whether this is a read of ISR while the line is down. Then it shows no interrupt, and
+// acknowledges none.
+#[inline(always)]
+fn is_idle_look(offset: u8, told: Told) -> bool
+    ensures isr { result ≡ true → offset ≡ offsets.ISR }
+    ensures down { result ≡ true → told.line ≡ false }
+{
+    offset as usize == offsets::ISR && !told.line
+}
+
+// Returns ISR without an interrupt.
+#[inline(always)]
+fn shown_idle(fifo: bool) -> u8
+    ensures { result ≡ bit_or ISR.INTERRUPT_STATUS.0 (flag fifo ISR.FIFOS_ENABLED.0) }
+{
+    if fifo {
+        ISR::INTERRUPT_STATUS.union(ISR::FIFOS_ENABLED).bits()
+    } else {
+        ISR::INTERRUPT_STATUS.bits()
+    }
+}
+
+// Does the same as `read` for a read of ISR while the line is down. It is a look, and nothing else
+// is new: so the chip is asked neither for an interrupt nor for the line.
+#[inline(always)]
+fn look_idle<const FIFO: usize>(chip: &LiveChipWith<FIFO>, told: &mut Told) -> Answer
+    requires told { IsTold (record { chip = chip.now; told = told.old }) }
+    requires still { IsStill chip.now }
+    requires down { told.old.line ≡ false }
+    ensures value { result.value ≡ spec.answer offsets.ISR chip.now }
+    ensures after { chip.now ≡ settle (spec.after_read offsets.ISR chip.now) }
+    ensures holds { IsTold (record { chip = chip.now; told = told.new }) }
+    ensures told { let c = spec.after_read offsets.ISR chip.now in
+        let call = Read offsets.ISR in
+        told.new ≡ tell (kind_of call chip.now) (stays_up call c) (settle c) told.old }
+    ensures todo { let c = spec.after_read offsets.ISR chip.now in
+        let call = Read offsets.ISR in
+        result.todo ≡ todo_of (kind_of call chip.now) (stays_up call c) (settle c) told.old }
+{
+    let fifo = chip.has_fifo_on();
+    let value = shown_idle(fifo);
+    let todo = nothing_new(chip, *told);
+    told.has_looked = true;
+    told.spare = 0;
+    Answer { value, todo }
+}
+
+// Reads a register, and lets the time of a call pass.
+#[inline]
+fn read<const FIFO: usize>(chip: &mut LiveChipWith<FIFO>, offset: u8, told: &mut Told) -> Answer
+    // proved: Each call leaves exactly the port that `after` says, and returns exactly the `Todo`
+    //   of `todo`; a read returns what the chip's definitions answer, and input is received from
+    //   the front as far as there is room
+    // on: `read`, `write`, `receive`, `receive_one`, `set_lines` and `take_output` of `VirtualPort`
+    requires offset { offset < NUM_REGISTERS }
+    requires told { IsTold (record { chip = chip.old; told = told.old }) }
+    requires still { IsStill chip.old }
+    ensures value { result.value ≡ spec.answer offset chip.old }
+    ensures after { chip.new ≡ settle (spec.after_read offset chip.old) }
+    ensures still { IsStill chip.new }
+    ensures holds { IsTold (record { chip = chip.new; told = told.new }) }
+    ensures told { let c = spec.after_read offset chip.old in
+        let call = Read offset in
+        told.new ≡ tell (kind_of call chip.old) (stays_up call c) (settle c) told.old }
+    ensures todo { let c = spec.after_read offset chip.old in
+        let call = Read offset in
+        result.todo ≡ todo_of (kind_of call chip.old) (stays_up call c) (settle c) told.old }
+{
+    if is_idle_look(offset, *told) {
+        look_idle(chip, told)
+    } else {
+        read_any(chip, offset, told)
     }
 }
 

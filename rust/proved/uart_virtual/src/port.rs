@@ -6,7 +6,7 @@ use crate::told::{Kind, Seen, Todo, Told};
 use bitflags::Flags;
 pub use snapshot::Restored;
 use uart_live::{Chip, ChipError, InputError, LiveChipWith, WIRE_ROOM};
-use uart_spec::registers::{LSR, MSR, offsets};
+use uart_spec::registers::{ISR, LSR, MSR, offsets};
 use uart_spec::{FIFO_SIZE, FifoSize};
 
 // The ticks that a character takes.
@@ -408,9 +408,9 @@ fn is_quiet(offset: u8, value: u8) -> bool {
     }
 }
 
-// Reads a register, and lets the time of a call pass.
+// Does the same as `read`, whatever the line is.
 #[inline]
-fn read<const FIFO: usize>(chip: &mut LiveChipWith<FIFO>, offset: u8, told: &mut Told) -> Answer {
+fn read_any<const FIFO: usize>(chip: &mut LiveChipWith<FIFO>, offset: u8, told: &mut Told) -> Answer {
     let value = chip.read(offset);
     if is_quiet(offset, value) {
         let todo = nothing_new(chip, *told);
@@ -418,6 +418,45 @@ fn read<const FIFO: usize>(chip: &mut LiveChipWith<FIFO>, offset: u8, told: &mut
     } else {
         let todo = finish_read(chip, told, kind_of_read(offset));
         Answer { value, todo }
+    }
+}
+
+// Returns whether this is a read of ISR while the line is down. Then it shows no interrupt, and
+// acknowledges none.
+#[inline(always)]
+fn is_idle_look(offset: u8, told: Told) -> bool {
+    offset as usize == offsets::ISR && !told.line
+}
+
+// Returns ISR without an interrupt.
+#[inline(always)]
+fn shown_idle(fifo: bool) -> u8 {
+    if fifo {
+        ISR::INTERRUPT_STATUS.union(ISR::FIFOS_ENABLED).bits()
+    } else {
+        ISR::INTERRUPT_STATUS.bits()
+    }
+}
+
+// Does the same as `read` for a read of ISR while the line is down. It is a look, and nothing else
+// is new: so the chip is asked neither for an interrupt nor for the line.
+#[inline(always)]
+fn look_idle<const FIFO: usize>(chip: &LiveChipWith<FIFO>, told: &mut Told) -> Answer {
+    let fifo = chip.has_fifo_on();
+    let value = shown_idle(fifo);
+    let todo = nothing_new(chip, *told);
+    told.has_looked = true;
+    told.spare = 0;
+    Answer { value, todo }
+}
+
+// Reads a register, and lets the time of a call pass.
+#[inline]
+fn read<const FIFO: usize>(chip: &mut LiveChipWith<FIFO>, offset: u8, told: &mut Told) -> Answer {
+    if is_idle_look(offset, *told) {
+        look_idle(chip, told)
+    } else {
+        read_any(chip, offset, told)
     }
 }
 
