@@ -111,6 +111,7 @@ calls! {
     port_receive_polled(port: &mut VirtualPort, byte: u8) -> bool { port.receive_polled(byte) }
     port_receive_first(port: &mut VirtualPort, byte: u8) -> Option<Todo> { port.receive_first(byte) }
     port_read_last(port: &mut VirtualPort) -> Option<Answer> { port.read_last() }
+    port_read_more(port: &mut VirtualPort) -> Option<Answer> { port.read_more() }
     port_receive(port: &mut VirtualPort, input: &[u8]) -> Received { port.receive(input) }
     port_receive_one(port: &mut VirtualPort, byte: u8, errors: LSR) -> Result<Todo, InputError> { port.receive_one(byte, errors) }
     port_set_lines(port: &mut VirtualPort, inputs: MSR) -> Result<Todo, InputError> { port.set_lines(inputs) }

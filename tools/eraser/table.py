@@ -484,6 +484,22 @@ GUARDS["uart_virtual::port::finish"] = Guard(
 GUARDS["uart_virtual::port::nothing_new"] = Guard(
     ["requires told { IsTold (record { chip = chip.now; told = told }) }", "requires paced { IsPaced chip.now }"], reason=IN_FILE
 )
+GUARDS["uart_virtual::port::tell_more"] = Guard(
+    [
+        "requires paced { IsPaced chip.now }",
+        "requires told { IsTold (record { chip = chip.now; told = told.old }) }",
+        "requires up { is_up chip.now ≡ true }",
+    ],
+    reason=IN_FILE,
+)
+GUARDS["uart_virtual::port::look_idle"] = Guard(
+    [
+        "requires told { IsTold (record { chip = chip.now; told = told.old }) }",
+        "requires still { IsStill chip.now }",
+        "requires down { told.old.line ≡ false }",
+    ],
+    reason=IN_FILE,
+)
 for name in ("finish_unmoved", "finish_read"):
     GUARDS[f"uart_virtual::port::{name}"] = Guard(["requires paced { IsPaced chip.old }", "requires unmoved { IsUnmoved chip.old }"], reason=IN_FILE)
 GUARDS["uart_virtual::port::send"] = Guard(
@@ -514,10 +530,15 @@ GUARDS["uart_virtual::port::write"] = Guard(
     tested_by="uart_virtual::port::write_slowly",
     reason="of each offset but that of DATA; the chip of a port is always still",
 )
-GUARDS["uart_virtual::port::read"] = Guard(
+GUARDS["uart_virtual::port::read_any"] = Guard(
     ["requires offset { offset < NUM_REGISTERS }", "requires told { IsTold (record { chip = chip.old; told = told.old }) }", STILL],
     tested_by="uart_live::live::LiveChipWith::read",
     reason="of the offset; what holds of a port always does",
+)
+GUARDS["uart_virtual::port::read"] = Guard(
+    ["requires offset { offset < NUM_REGISTERS }", "requires told { IsTold (record { chip = chip.old; told = told.old }) }", STILL],
+    tested_by="uart_virtual::port::read_any",
+    reason="of each offset but that of ISR; what holds of a port always does",
 )
 for access in ("read", "write"):
     GUARDS[f"uart_virtual::port::VirtualPortWith::{access}"] = Guard(
@@ -570,7 +591,10 @@ CASTS = {
     **{f"uart_ring::notes::ErrorNotes::{name}": ["register_offset"] for name in ("read", "write")},
     **{f"uart_chip::controlling::{name}": ["offset"] for name in ("read_register", "write_register")},
     "uart_chip::receiving::is_data_pending": ["characters_of ( parts . size ( ) , level )"],
-    **{f"uart_virtual::port::{name}": ["offset"] for name in ("kind_of_read", "kind_of_write", "is_quiet", "is_fast", "write_and_raise")},
+    **{
+        f"uart_virtual::port::{name}": ["offset"]
+        for name in ("kind_of_read", "kind_of_write", "is_quiet", "is_idle_look", "is_fast", "write_and_raise")
+    },
     **{f"uart_calls::replay::Replay::{name}": ["register_offset"] for name in ("read", "write")},
     **{f"uart_calls::tape::Tape::{name}": ["register_offset"] for name in ("read", "write")},
     **{f"uart_trace::recorder::Recorder::{name}": ["register_offset"] for name in ("read", "write")},

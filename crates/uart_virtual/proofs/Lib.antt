@@ -12,4 +12,6 @@ mod Quiet
 mod Passes
 mod Polls
 mod Masks
+mod More
+mod Looks
 pub mod Sizes

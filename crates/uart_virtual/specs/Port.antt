@@ -321,6 +321,12 @@ receives_first p =
 abbrev pub reads_last : PortState → Bool
 reads_last p = (length (waiting p.chip.receiver) == 1) && not (is_dlab_set p.chip.latches)
 
+-- a read of DATA leaves a character, and the guest has the interrupt of received characters enabled
+abbrev pub reads_more : PortState → Bool
+reads_more p =
+    has_any p.chip.latches.ier IER.DATA_READY.0 &&
+    (nat_lt 1 (length (waiting p.chip.receiver)) && not (is_dlab_set p.chip.latches))
+
 -- the host can take a byte that the guest writes to DATA before it is on the output: it would be alone there at once
 abbrev pub passes : PortState → Bool
 passes p = (length p.chip.transmitter.wire == 0) && sends_at_once p.chip

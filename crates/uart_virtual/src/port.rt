@@ -1,5 +1,5 @@
 //! The port: how each call is carried out, and what is told of it.
-ghost use Rattle.std.specs.Prelude.{◌≡◌, ◌≢◌, ◌<◌, ◌≤◌, length, min, take, bit_and, Err, IfOk, IsOk, Ok, ◌==◌, true, false, ℕ};
+ghost use Rattle.std.specs.Prelude.{◌≡◌, ◌≢◌, ◌<◌, ◌≤◌, length, min, take, bit_and, bit_or, Err, IfOk, IsOk, Ok, ◌==◌, true, false, ℕ};
 ghost use Rattle.std.specs.Prelude.{Some, is_some, [], ◌∷◌, ◌&&◌, ◌||◌};
 ghost use Rattle.uart_chip.specs.Chip as spec;
 ghost use Rattle.uart_chip.specs.Chip.{ChipState};
@@ -9,9 +9,10 @@ ghost use Rattle.uart_live.specs.Live.{IsLive};
 ghost use Rattle.uart_live.specs.Quick.{clear_status, when_due};
 ghost use Rattle.uart_live.specs.Size.{fifo_size, is_size};
 ghost use Rattle.uart_live.specs.declared.errors.ChipError.{ChipError};
-ghost use Rattle.uart_spec.specs.Bits.{IsWithin};
+ghost use Rattle.uart_spec.specs.Bits.{IsWithin, flag};
 ghost use Rattle.uart_live.specs.declared.errors.InputError.{InputError};
 ghost use Rattle.uart_spec.specs.declared.baud.TheConstants.{NUM_REGISTERS};
+ghost use Rattle.uart_spec.specs.declared.registers.interrupt_status.TheConstants.ISR;
 ghost use Rattle.uart_spec.specs.declared.registers.line_status.TheConstants.LSR;
 ghost use Rattle.uart_spec.specs.declared.registers.modem_status.TheConstants.MSR;
 ghost use Rattle.uart_virtual.specs.Port as port;
@@ -29,7 +30,7 @@ use bitflags::Flags;
 pub use snapshot::Restored;
 use std::marker::Model;
 use uart_live::{Chip, ChipError, InputError, LiveChipWith, WIRE_ROOM};
-use uart_spec::registers::{LSR, MSR, offsets};
+use uart_spec::registers::{ISR, LSR, MSR, offsets};
 use uart_spec::{FIFO_SIZE, FifoSize};
 
 // The ticks that a character takes.
@@ -349,6 +350,28 @@ fn nothing_new<const FIFO: usize>(chip: &LiveChipWith<FIFO>, told: Told) -> Todo
     }
 }
 
+// Returns what is to be told after a read of DATA that left a character, and notes that it was
+// told. The line is up before and after, and the room is as it was told. If the line was up all the
+// time, nothing is new.
+#[inline(always)]
+fn tell_more<const FIFO: usize>(chip: &LiveChipWith<FIFO>, was_up: bool, told: &mut Told) -> Todo
+    requires paced { IsPaced chip.now }
+    requires told { IsTold (record { chip = chip.now; told = told.old }) }
+    requires up { is_up chip.now ≡ true }
+    ensures holds { IsTold (record { chip = chip.now; told = told.new }) }
+    ensures told { told.new ≡
+        tell (kind_of (Read offsets.DATA) chip.now) was_up chip.now told.old }
+    ensures todo { result ≡
+        todo_of (kind_of (Read offsets.DATA) chip.now) was_up chip.now told.old }
+{
+    if was_up {
+        nothing_new(chip, *told)
+    } else {
+        let kind = kind_of_read(offsets::DATA as u8);
+        decide_at(chip, true, was_up, told, kind)
+    }
+}
+
 // Lets the time of a call pass, and returns what is to be told.
 #[inline(never)]
 fn finish<const FIFO: usize>(
@@ -423,13 +446,9 @@ fn is_quiet(offset: u8, value: u8) -> bool
     }
 }
 
-// Reads a register, and lets the time of a call pass.
+// Does the same as `read`, whatever the line is.
 #[inline]
-fn read<const FIFO: usize>(chip: &mut LiveChipWith<FIFO>, offset: u8, told: &mut Told) -> Answer
-    // proved: Each call leaves exactly the port that `after` says, and returns exactly the `Todo`
-    //   of `todo`; a read returns what the chip's definitions answer, and input is received from
-    //   the front as far as there is room
-    // on: `read`, `write`, `receive`, `receive_one`, `set_lines` and `take_output` of `VirtualPort`
+fn read_any<const FIFO: usize>(chip: &mut LiveChipWith<FIFO>, offset: u8, told: &mut Told) -> Answer
     requires offset { offset < NUM_REGISTERS }
     requires told { IsTold (record { chip = chip.old; told = told.old }) }
     requires still { IsStill chip.old }
@@ -451,6 +470,81 @@ fn read<const FIFO: usize>(chip: &mut LiveChipWith<FIFO>, offset: u8, told: &mut
     } else {
         let todo = finish_read(chip, told, kind_of_read(offset));
         Answer { value, todo }
+    }
+}
+
+// Returns whether this is a read of ISR while the line is down. Then it shows no interrupt, and
+// acknowledges none.
+#[inline(always)]
+fn is_idle_look(offset: u8, told: Told) -> bool
+    ensures isr { result ≡ true → offset ≡ offsets.ISR }
+    ensures down { result ≡ true → told.line ≡ false }
+{
+    offset as usize == offsets::ISR && !told.line
+}
+
+// Returns ISR without an interrupt.
+#[inline(always)]
+fn shown_idle(fifo: bool) -> u8
+    ensures { result ≡ bit_or ISR.INTERRUPT_STATUS.0 (flag fifo ISR.FIFOS_ENABLED.0) }
+{
+    if fifo {
+        ISR::INTERRUPT_STATUS.union(ISR::FIFOS_ENABLED).bits()
+    } else {
+        ISR::INTERRUPT_STATUS.bits()
+    }
+}
+
+// Does the same as `read` for a read of ISR while the line is down. It is a look, and nothing else
+// is new: so the chip is asked neither for an interrupt nor for the line.
+#[inline(always)]
+fn look_idle<const FIFO: usize>(chip: &LiveChipWith<FIFO>, told: &mut Told) -> Answer
+    requires told { IsTold (record { chip = chip.now; told = told.old }) }
+    requires still { IsStill chip.now }
+    requires down { told.old.line ≡ false }
+    ensures value { result.value ≡ spec.answer offsets.ISR chip.now }
+    ensures after { chip.now ≡ settle (spec.after_read offsets.ISR chip.now) }
+    ensures holds { IsTold (record { chip = chip.now; told = told.new }) }
+    ensures told { let c = spec.after_read offsets.ISR chip.now in
+        let call = Read offsets.ISR in
+        told.new ≡ tell (kind_of call chip.now) (stays_up call c) (settle c) told.old }
+    ensures todo { let c = spec.after_read offsets.ISR chip.now in
+        let call = Read offsets.ISR in
+        result.todo ≡ todo_of (kind_of call chip.now) (stays_up call c) (settle c) told.old }
+{
+    let fifo = chip.has_fifo_on();
+    let value = shown_idle(fifo);
+    let todo = nothing_new(chip, *told);
+    told.has_looked = true;
+    told.spare = 0;
+    Answer { value, todo }
+}
+
+// Reads a register, and lets the time of a call pass.
+#[inline]
+fn read<const FIFO: usize>(chip: &mut LiveChipWith<FIFO>, offset: u8, told: &mut Told) -> Answer
+    // proved: Each call leaves exactly the port that `after` says, and returns exactly the `Todo`
+    //   of `todo`; a read returns what the chip's definitions answer, and input is received from
+    //   the front as far as there is room
+    // on: `read`, `write`, `receive`, `receive_one`, `set_lines` and `take_output` of `VirtualPort`
+    requires offset { offset < NUM_REGISTERS }
+    requires told { IsTold (record { chip = chip.old; told = told.old }) }
+    requires still { IsStill chip.old }
+    ensures value { result.value ≡ spec.answer offset chip.old }
+    ensures after { chip.new ≡ settle (spec.after_read offset chip.old) }
+    ensures still { IsStill chip.new }
+    ensures holds { IsTold (record { chip = chip.new; told = told.new }) }
+    ensures told { let c = spec.after_read offset chip.old in
+        let call = Read offset in
+        told.new ≡ tell (kind_of call chip.old) (stays_up call c) (settle c) told.old }
+    ensures todo { let c = spec.after_read offset chip.old in
+        let call = Read offset in
+        result.todo ≡ todo_of (kind_of call chip.old) (stays_up call c) (settle c) told.old }
+{
+    if is_idle_look(offset, *told) {
+        look_idle(chip, told)
+    } else {
+        read_any(chip, offset, told)
     }
 }
 
@@ -682,10 +776,10 @@ impl<const FIFO: usize> VirtualPortWith<FIFO> {
         //   `todo` says has to be done: a read of LSR that shows no error; a byte that meets an
         //   idle transmitter and that the host takes at once; a byte of input, and a read of DATA,
         //   while no interrupt is enabled; with the interrupt of received characters enabled, a
-        //   byte of input while none waits; a read of DATA that takes the last character. One that
-        //   refuses changes nothing
+        //   byte of input while none waits, and a read that leaves a character; a read of DATA that
+        //   takes the last character. One that refuses changes nothing
         // on: `read_clear_status`, `passing`, `pass`, `receive_polled`, `read_polled`,
-        //   `receive_first` and `read_last` of `VirtualPort`
+        //   `receive_first`, `read_last` and `read_more` of `VirtualPort`
         ensures value { result ≡ clear_status self.old.chip }
         ensures read { is_some result ≡ true → self.new ≡ port.after (Read offsets.LSR) self.old }
         ensures todo { is_some result ≡ true →
@@ -757,6 +851,44 @@ impl<const FIFO: usize> VirtualPortWith<FIFO> {
         LiveChipWith::expire_timeout(&mut self.chip);
         let kind = kind_of_read(offsets::DATA as u8);
         let todo = decide_at(&self.chip, level, level, &mut self.told, kind);
+        Some(Answer { value, todo })
+    }
+
+    // Returns whether a read of DATA leaves a character, and the guest has the interrupt of
+    // received characters enabled.
+    #[inline]
+    fn reads_more(&self) -> bool
+        ensures { result ≡ port.reads_more self.now }
+    {
+        let is_on = self.chip.has_input_interrupt_on();
+        is_on && (1 < self.chip.waiting_len() && !self.chip.is_dlab_set())
+    }
+
+    /// Reads DATA for the guest, if more than one character waits, and the guest has the interrupt
+    /// of received characters enabled. Returns its value, and what the monitor has to do. Otherwise
+    /// returns `None`, and nothing changes.
+    ///
+    /// The value, the effect and what has to be done are those of [`VirtualPortWith::read`].
+    // A character that waits takes the line up when the call ends, and it was up before. A FIFO of
+    // which a character was read has room, if it had. So the chip is asked only whether the line
+    // fell meanwhile, and mostly it did not.
+    #[inline]
+    pub fn read_more(&mut self) -> Option<Answer>
+        ensures more { is_some result ≡ port.reads_more self.old }
+        ensures value { (answer : Answer) → result ≡ Some answer →
+            answer.value ≡ spec.answer offsets.DATA self.old.chip }
+        ensures read { is_some result ≡ true → self.new ≡ port.after (Read offsets.DATA) self.old }
+        ensures todo { (answer : Answer) → result ≡ Some answer →
+            answer.todo ≡ port.todo (Read offsets.DATA) self.old }
+        ensures left { is_some result ≡ false → self.new ≡ self.old }
+    {
+        if !self.reads_more() {
+            return None;
+        }
+        let value = self.chip.read_data();
+        let was_up = self.chip.is_interrupting();
+        LiveChipWith::expire_timeout(&mut self.chip);
+        let todo = tell_more(&self.chip, was_up, &mut self.told);
         Some(Answer { value, todo })
     }
 
@@ -923,9 +1055,11 @@ impl<const FIFO: usize> VirtualPortWith<FIFO> {
     pub fn receive_first(&mut self, byte: u8) -> Option<Todo>
         // promise: the short ways of a guest with interrupts do what the calls do for which they
         //   stand
-        // with: receive_first.received, receive_first.todo, read_last.read, read_last.todo
+        // with: receive_first.received, receive_first.todo, read_last.read, read_last.todo,
+        //   read_more.read, read_more.todo
         // shown by: each_call_does_what_its_definition_says
-        // refused: a_first_byte_is_no_rise, a_last_read_takes_the_line_down
+        // refused: a_first_byte_is_no_rise, a_last_read_takes_the_line_down,
+        //   a_fall_before_the_last_read_is_missed
         ensures first { is_some result ≡ port.receives_first self.old }
         ensures received { is_some result ≡ true →
             self.new ≡ port.after (Receive (byte ∷ [])) self.old }

@@ -428,7 +428,7 @@ fn is_nothing(todo: Todo) -> bool {
 /// Makes one of the short calls of the port, and then what it stands for. One that refuses changes nothing, as later calls show.
 fn compare_short_call(random: &mut Random, port: &mut VirtualPort, plain: &mut Plain) {
     let byte = random.byte();
-    match random.below(6) {
+    match random.below(7) {
         0 => {
             if let Some(value) = port.read_clear_status() {
                 let answer = plain.read(LSR_OFFSET);
@@ -453,6 +453,11 @@ fn compare_short_call(random: &mut Random, port: &mut VirtualPort, plain: &mut P
             }
         }
         4 => {
+            if let Some(answer) = port.read_more() {
+                assert_eq!(answer, plain.read(DATA));
+            }
+        }
+        5 => {
             if let Some(todo) = port.receive_first(byte) {
                 assert_eq!(Received { count: 1, todo }, plain.receive(&[byte]));
             }

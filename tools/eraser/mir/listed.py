@@ -211,6 +211,7 @@ CONTRACTS = {
     "uart_virtual::port::VirtualPortWith::read": "a1 >= 8",
     "uart_virtual::port::VirtualPortWith::write": "a1 >= 8",
     "uart_virtual::port::read": "a1 >= 8",
+    "uart_virtual::port::read_any": "a1 >= 8",
     "uart_virtual::port::send": "!a0.sends_at_once()",
     "uart_virtual::port::write": "a1 >= 8",
     "uart_virtual::port::write_slowly": "a1 >= 8",

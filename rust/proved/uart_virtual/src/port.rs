@@ -6,7 +6,7 @@ use crate::told::{Kind, Seen, Todo, Told};
 use bitflags::Flags;
 pub use snapshot::Restored;
 use uart_live::{Chip, ChipError, InputError, LiveChipWith, WIRE_ROOM};
-use uart_spec::registers::{LSR, MSR, offsets};
+use uart_spec::registers::{ISR, LSR, MSR, offsets};
 use uart_spec::{FIFO_SIZE, FifoSize};
 
 // The ticks that a character takes.
@@ -347,6 +347,19 @@ fn nothing_new<const FIFO: usize>(chip: &LiveChipWith<FIFO>, told: Told) -> Todo
     }
 }
 
+// Returns what is to be told after a read of DATA that left a character, and notes that it was
+// told. The line is up before and after, and the room is as it was told. If the line was up all the
+// time, nothing is new.
+#[inline(always)]
+fn tell_more<const FIFO: usize>(chip: &LiveChipWith<FIFO>, was_up: bool, told: &mut Told) -> Todo {
+    if was_up {
+        nothing_new(chip, *told)
+    } else {
+        let kind = kind_of_read(offsets::DATA as u8);
+        decide_at(chip, true, was_up, told, kind)
+    }
+}
+
 // Lets the time of a call pass, and returns what is to be told.
 #[inline(never)]
 fn finish<const FIFO: usize>(
@@ -395,9 +408,9 @@ fn is_quiet(offset: u8, value: u8) -> bool {
     }
 }
 
-// Reads a register, and lets the time of a call pass.
+// Does the same as `read`, whatever the line is.
 #[inline]
-fn read<const FIFO: usize>(chip: &mut LiveChipWith<FIFO>, offset: u8, told: &mut Told) -> Answer {
+fn read_any<const FIFO: usize>(chip: &mut LiveChipWith<FIFO>, offset: u8, told: &mut Told) -> Answer {
     let value = chip.read(offset);
     if is_quiet(offset, value) {
         let todo = nothing_new(chip, *told);
@@ -405,6 +418,45 @@ fn read<const FIFO: usize>(chip: &mut LiveChipWith<FIFO>, offset: u8, told: &mut
     } else {
         let todo = finish_read(chip, told, kind_of_read(offset));
         Answer { value, todo }
+    }
+}
+
+// Returns whether this is a read of ISR while the line is down. Then it shows no interrupt, and
+// acknowledges none.
+#[inline(always)]
+fn is_idle_look(offset: u8, told: Told) -> bool {
+    offset as usize == offsets::ISR && !told.line
+}
+
+// Returns ISR without an interrupt.
+#[inline(always)]
+fn shown_idle(fifo: bool) -> u8 {
+    if fifo {
+        ISR::INTERRUPT_STATUS.union(ISR::FIFOS_ENABLED).bits()
+    } else {
+        ISR::INTERRUPT_STATUS.bits()
+    }
+}
+
+// Does the same as `read` for a read of ISR while the line is down. It is a look, and nothing else
+// is new: so the chip is asked neither for an interrupt nor for the line.
+#[inline(always)]
+fn look_idle<const FIFO: usize>(chip: &LiveChipWith<FIFO>, told: &mut Told) -> Answer {
+    let fifo = chip.has_fifo_on();
+    let value = shown_idle(fifo);
+    let todo = nothing_new(chip, *told);
+    told.has_looked = true;
+    told.spare = 0;
+    Answer { value, todo }
+}
+
+// Reads a register, and lets the time of a call pass.
+#[inline]
+fn read<const FIFO: usize>(chip: &mut LiveChipWith<FIFO>, offset: u8, told: &mut Told) -> Answer {
+    if is_idle_look(offset, *told) {
+        look_idle(chip, told)
+    } else {
+        read_any(chip, offset, told)
     }
 }
 
@@ -748,6 +800,58 @@ impl<const FIFO: usize> VirtualPortWith<FIFO> {
         LiveChipWith::expire_timeout(&mut self.chip);
         let kind = kind_of_read(offsets::DATA as u8);
         let todo = decide_at(&self.chip, level, level, &mut self.told, kind);
+        Some(Answer { value, todo })
+    }
+
+    // Returns whether a read of DATA leaves a character, and the guest has the interrupt of
+    // received characters enabled.
+    #[inline]
+    fn reads_more(&self) -> bool {
+        let is_on = self.chip.has_input_interrupt_on();
+        is_on && (1 < self.chip.waiting_len() && !self.chip.is_dlab_set())
+    }
+
+    /// Reads DATA for the guest, if more than one character waits, and the guest has the interrupt
+    /// of received characters enabled. Returns its value, and what the monitor has to do. Otherwise
+    /// returns `None`, and nothing changes.
+    ///
+    /// The value, the effect and what has to be done are those of [`VirtualPortWith::read`].
+    ///
+    /// # Proved
+    ///
+    /// - *more*: returns `Some` exactly if [`reads_more`](crate::proved::port#reads_more) `self.old`: a read of DATA leaves a character, and the guest has the interrupt of received characters enabled.
+    /// - *value*: for each `answer`: if it returns `Some answer`: `answer.value ≡ spec.answer offsets.DATA self.old.chip`.
+    ///   - [`answer`](uart_chip::proved::chip#answer): what a read of the register returns.
+    /// - *read*: if it returns `Some`: `self` becomes [`after`](crate::proved::port#after) `(Read offsets.DATA) self.old`: the port after this call: the access or what the host brings, and then the time that passes in each call.
+    /// - *todo*: for each `answer`: if it returns `Some answer`: `answer.todo ≡ port.todo (Read offsets.DATA) self.old`.
+    ///   - [`todo`](crate::proved::port#todo): what the monitor has to do after this call: signal the interrupt, take output, bring input.
+    /// - *left*: if it returns `None`: nothing changes.
+    ///
+    /// <details><summary>The clauses</summary>
+    ///
+    /// [How to read them](uart_spec::proved):
+    ///
+    /// ```text
+    /// ensures more { is_some result ≡ port.reads_more self.old }
+    /// ensures value { (answer : Answer) → result ≡ Some answer → answer.value ≡ spec.answer offsets.DATA self.old.chip }
+    /// ensures read { is_some result ≡ true → self.new ≡ port.after (Read offsets.DATA) self.old }
+    /// ensures todo { (answer : Answer) → result ≡ Some answer → answer.todo ≡ port.todo (Read offsets.DATA) self.old }
+    /// ensures left { is_some result ≡ false → self.new ≡ self.old }
+    /// ```
+    ///
+    /// </details>
+    // A character that waits takes the line up when the call ends, and it was up before. A FIFO of
+    // which a character was read has room, if it had. So the chip is asked only whether the line
+    // fell meanwhile, and mostly it did not.
+    #[inline]
+    pub fn read_more(&mut self) -> Option<Answer> {
+        if !self.reads_more() {
+            return None;
+        }
+        let value = self.chip.read_data();
+        let was_up = self.chip.is_interrupting();
+        LiveChipWith::expire_timeout(&mut self.chip);
+        let todo = tell_more(&self.chip, was_up, &mut self.told);
         Some(Answer { value, todo })
     }
 

@@ -295,6 +295,21 @@
 ///
 /// It uses [`waiting`](uart_chip::proved::receiver#waiting), [`is_dlab_set`](uart_chip::proved::chip#is_dlab_set); `PortState` of this file.
 ///
+/// <span id="reads_more"></span>
+///
+/// # `reads_more`
+///
+/// A read of DATA leaves a character, and the guest has the interrupt of received characters enabled.
+///
+/// ```text
+/// abbrev pub reads_more : PortState → Bool
+/// reads_more p =
+///     has_any p.chip.latches.ier IER.DATA_READY.0 &&
+///     (nat_lt 1 (length (waiting p.chip.receiver)) && not (is_dlab_set p.chip.latches))
+/// ```
+///
+/// It uses [`has_any`](uart_spec::proved::bits#has_any), [`waiting`](uart_chip::proved::receiver#waiting), [`is_dlab_set`](uart_chip::proved::chip#is_dlab_set); `PortState` of this file.
+///
 /// <span id="passes"></span>
 ///
 /// # `passes`
@@ -334,7 +349,7 @@
 /// ```
 ///
 /// It uses [`IsLive`](uart_live::proved::live#IsLive), [`chip_of`](uart_chip::proved::snapshot#chip_of), [`IsStill`](crate::proved::port#IsStill).
-#[doc(alias("settle_ticks", "settle", "is_up", "accepted", "told_after", "todo_after", "todo_of", "renewed", "untold", "begun", "fresh", "after", "todo", "IsTold", "IsStill", "nothing_new", "reads_polled", "receives_polled", "receives_first", "reads_last", "passes", "passing", "IsSaved"))]
+#[doc(alias("settle_ticks", "settle", "is_up", "accepted", "told_after", "todo_after", "todo_of", "renewed", "untold", "begun", "fresh", "after", "todo", "IsTold", "IsStill", "nothing_new", "reads_polled", "receives_polled", "receives_first", "reads_last", "reads_more", "passes", "passing", "IsSaved"))]
 pub mod port {}
 
 /// A monitor with a clock: which signals it may put off, and that nobody waits for ever.
