@@ -987,7 +987,10 @@ class Library:
         names = exact[:1] or (single if sum(bits[name] for name in single) == literal.value and len(single) <= 4 else [])
         if not names or exact == [] and sum(bits[name] for name in names) != literal.value:
             return dataclasses.replace(literal, is_of_register=bool(bits))
-        shown = {f"{self.prefix}_{called.BITS.get(f'{register}_{name}', f'{register}_{name}')}": bits.get(name, literal.value) for name in names}
+        # A header of the library for C has the names of the source.
+        renamed = {} if self.exports else called.BITS
+        own = {name: f"{register}_{name}" for name in names}
+        shown = {f"{self.prefix}_{renamed.get(one, one)}": bits.get(name, literal.value) for name, one in own.items()}
         self.bits |= shown
         return c.Literal(literal.value, literal.of, tuple(shown))
 
