@@ -73,7 +73,7 @@ enum {
     UART_SPR = 7
 };
 
-/* Bits that are in no interface. */
+/* Bits of registers that the header does not need. */
 enum {
     U16550_FCR_FIFO_64_ENABLE = 0x20,
     U16550_FCR_FIFO_ENABLE = 0x01,
@@ -87,18 +87,13 @@ enum {
     U16550_ISR_DMA_RX_END = 0x10,
     U16550_ISR_FIFOS_ENABLED = 0xc0,
     U16550_ISR_FIFO_64_ENABLED = 0x20,
-    U16550_ISR_IIC_0 = 0x02,
-    U16550_ISR_IIC_1 = 0x04,
-    U16550_ISR_IIC_2 = 0x08,
     U16550_ISR_INTERRUPT_STATUS = 0x01,
     U16550_LCR_DLAB = 0x80,
     U16550_LCR_MORE_STOP_BITS = 0x04,
-    U16550_LCR_PARITY = 0x38,
     U16550_LCR_PARITY_ENABLE = 0x08,
     U16550_LCR_PARITY_EVEN = 0x10,
     U16550_LCR_PARITY_STICK = 0x20,
     U16550_LCR_SET_BREAK = 0x40,
-    U16550_LCR_WORD_LENGTH = 0x03,
     U16550_LCR_WORD_LENGTH_5 = 0x00,
     U16550_LCR_WORD_LENGTH_6 = 0x01,
     U16550_LCR_WORD_LENGTH_7 = 0x02,
@@ -455,7 +450,7 @@ static inline void uart_first_to_last(struct u16550_received *items, size_t coun
 }
 #endif
 
-/* The number of an error that is in another one. */
+/* The same error as a call names it that makes the one which failed. */
 static inline int uart_init_error_of(int error)
 {
     return error == U16550_FRAME_NON_INTEGER_DIVISOR ? U16550_INIT_NON_INTEGER_DIVISOR : U16550_INIT_DIVISOR_OUT_OF_RANGE;
@@ -668,8 +663,9 @@ static inline bool uart_whole_quotient(uint32_t dividend, uint64_t divisor, uint
 }
 
 /*
- * Returns the divisor for a baud rate, or the baud rate for a divisor, if it is a whole number.
- * The product is computed in 64 bits: it reaches 16 * 16 * (2^32 - 1).
+ * Returns the divisor for a baud rate, or the baud rate for a divisor, if it is a whole number:
+ * frequency / (16 * (prescaler + 1) * factor), where the factor is what is given of the two. The
+ * product is computed in 64 bits: it reaches 16 * 16 * (2^32 - 1).
  */
 static inline bool
 uart_divide_clock(uint32_t frequency, uint32_t factor,
@@ -746,17 +742,6 @@ static uint8_t uart_lcr_of_word_length(uint8_t word_length)
 }
 
 /*
- * Returns the register with this word length. No other bit changes.
- *
- * Proved: these bits are the code of this word length.
- * Proved: no other bit changes.
- */
-static inline uint8_t uart_lcr_with_word_length(uint8_t lcr, uint8_t length)
-{
-    return (lcr & (uint8_t)~U16550_LCR_WORD_LENGTH) | uart_lcr_of_word_length(length);
-}
-
-/*
  * Returns this parity as LCR has it.
  *
  * Proved: these bits are a code of this parity.
@@ -778,22 +763,11 @@ static uint8_t uart_lcr_of_parity(uint8_t parity)
     }
 }
 
-/*
- * Returns the register with this parity. No other bit changes.
- *
- * Proved: these bits are a code of this parity.
- * Proved: no other bit changes.
- */
-static inline uint8_t uart_lcr_with_parity(uint8_t lcr, uint8_t parity)
-{
-    return (lcr & (uint8_t)~U16550_LCR_PARITY) | uart_lcr_of_parity(parity);
-}
-
 /* Returns LCR for a configuration. */
 static inline uint8_t uart_lcr_of_config(const struct u16550_core_config *config)
 {
-    uint8_t lcr = uart_lcr_with_word_length(0, config->data_bits);
-    lcr = uart_lcr_with_parity(lcr, config->parity);
+    uint8_t word_length = uart_lcr_of_word_length(config->data_bits);
+    uint8_t lcr = word_length | uart_lcr_of_parity(config->parity);
     if (config->extra_stop_bits)
         lcr |= U16550_LCR_MORE_STOP_BITS;
     return lcr;
@@ -1323,12 +1297,16 @@ static inline uint8_t uart_fifo_size(const struct u16550_core_driver *uart)
 }
 
 /* Returns the trigger level for FIFOs that are on, and none for FIFOs that are off. */
-static inline bool uart_level_of(const struct u16550_core_driver *uart, bool on, uint8_t *level)
+static struct u16550_core_maybe_fifo_trigger_level
+uart_level_of(const struct u16550_core_driver *uart, bool on)
 {
-    if (!on)
-        return false;
-    *level = uart_fifo_level(uart);
-    return true;
+    if (on) {
+        struct u16550_core_maybe_fifo_trigger_level level = { true, uart_fifo_level(uart) };
+        return level;
+    }
+    struct u16550_core_maybe_fifo_trigger_level none =
+        { false, U16550_CORE_FIFO_TRIGGER_LEVEL_ONE };
+    return none;
 }
 
 /* Returns FCR for a trigger level. */
@@ -1377,9 +1355,7 @@ uart_enter_loopback(struct u16550_core_driver *uart,
  * Does not wait: reads LSR once. The error bits that this clears are saved for the next
  * u16550_lsr.
  *
- * Errors
- *
- * false if no byte is available.
+ * Returns false if no byte is available.
  *
  * Proved: one read of LSR, which shows a received byte exactly if the result is true.
  */
@@ -1394,9 +1370,7 @@ static inline bool uart_ready_to_receive(struct u16550_core_driver *uart)
  * Does not wait. The error bits that the read of LSR clears are saved for the next u16550_lsr;
  * they belong to the byte that is then received, except for an overrun.
  *
- * Errors
- *
- * false if no byte is available. RBR was not read then.
+ * Returns false if no byte is available. RBR was not read then.
  *
  * Proved: LSR shows a received byte, which is read from DATA and returned; or LSR shows none.
  */
@@ -1621,8 +1595,7 @@ static int uart_find_fifo_size(struct u16550_core_driver *uart, uint8_t *size)
     if (!uart_wait_for(uart, U16550_LSR_TRANSMITTER_EMPTY))
         return U16550_FIFOS_STALLED;
     uint8_t noted = uart->saved_lsr;
-    struct u16550_core_maybe_fifo_trigger_level level;
-    level.is_some = uart_level_of(uart, true, &level.value);
+    struct u16550_core_maybe_fifo_trigger_level level = uart_level_of(uart, true);
     uint8_t before = uart_enter_loopback(uart, level);
     int status = uart_find_and_reset(uart, level, size);
     uart_leave_loopback(uart, mcr, ier, before, noted);
@@ -2038,17 +2011,14 @@ static bool uart_change_fifos(struct u16550_core_driver *uart, uint8_t action)
     switch (action) {
     case U16550_FIFOS_KEEP:
         return on;
-    case U16550_FIFOS_RESET: {
-        struct u16550_core_maybe_fifo_trigger_level level;
-        level.is_some = uart_level_of(uart, on, &level.value);
-        uart_write_register(uart, UART_FCR, uart_fcr_of_level(level));
+    case U16550_FIFOS_RESET:
+        uart_write_register(uart, UART_FCR, uart_fcr_of_level(uart_level_of(uart, on)));
         return on;
-    }
     case U16550_FIFOS_DISABLE:
     default: {
-        struct u16550_core_maybe_fifo_trigger_level fifo_trigger_level =
+        struct u16550_core_maybe_fifo_trigger_level none =
             { false, U16550_CORE_FIFO_TRIGGER_LEVEL_ONE };
-        uart_write_register(uart, UART_FCR, uart_fcr_of_level(fifo_trigger_level));
+        uart_write_register(uart, UART_FCR, uart_fcr_of_level(none));
         return false;
     }
     }
@@ -2247,9 +2217,7 @@ uart_receive_bytes_while(struct u16550_core_driver *uart, uint8_t *buffer, size_
  * Does not wait. The error bits are saved for the next u16550_lsr too. u16550_receive_with_errors
  * says when an error is not shown.
  *
- * Errors
- *
- * false if no byte is available. RBR was not read then.
+ * Returns false if no byte is available. RBR was not read then.
  *
  * Proved: LSR shows a received byte, which is read from DATA and returned with the errors that LSR
  * shows; or LSR shows none.
@@ -2325,9 +2293,7 @@ static void uart_restore(struct u16550_core_driver *uart, const struct u16550_du
     uart->config.interrupts = dump->ier;
     uint16_t divisor = uart_config_register_dump_divisor(dump);
     uart_set_line(uart, divisor, dump->lcr & (uint8_t)~U16550_LCR_DLAB);
-    struct u16550_core_maybe_fifo_trigger_level level;
-    level.is_some = uart_level_of(uart, uart_isr_fifo_enabled(dump->isr), &level.value);
-    bool on = uart_set_fifo(uart, level);
+    bool on = uart_set_fifo(uart, uart_level_of(uart, uart_isr_fifo_enabled(dump->isr)));
     uart_set_modem_control(uart, dump->mcr);
     uart_write_register(uart, UART_SPR, dump->spr);
     uart_write_register(uart, UART_IER, dump->ier);
@@ -2384,8 +2350,8 @@ static inline size_t uart_burst_limit(const struct u16550_core_driver *uart, uin
 static inline void
 uart_write_data(struct u16550_core_driver *uart, const uint8_t *bytes, size_t bytes_len)
 {
-    for (size_t byte = 0; byte < bytes_len; byte++)
-        uart_write_byte(uart, bytes[byte]);
+    for (size_t i = 0; i < bytes_len; i++)
+        uart_write_byte(uart, bytes[i]);
 }
 
 /* Writes bytes from the front to DATA, at most so many, and returns how many. */
@@ -2837,10 +2803,8 @@ static inline void uart_set_spin_limit(struct u16550_core_driver *uart, uint64_t
  *
  * Writes FCR once, without a reset: the bytes in both FIFOs stay. Does not wait.
  *
- * Errors
- *
- * false if the FIFOs are off (fifo_enabled). No access was made, and nothing changed: a write that
- * turns the FIFOs on empties them, which u16550_init does.
+ * Returns false if the FIFOs are off (fifo_enabled). No access was made, and nothing changed: a
+ * write that turns the FIFOs on empties them, which u16550_init does.
  *
  * Proved: with the FIFOs on, the level is stored and written to FCR; with them off, nothing is
  * done, and the result is the error.
@@ -3226,10 +3190,10 @@ uart_tty_write_raw_text(struct uart_tty *tty, const uint8_t *text, size_t text_l
     size_t *stalled_at)
 {
     size_t done = 0;
-    for (size_t byte = 0; byte < text_len; byte++) {
+    for (size_t i = 0; i < text_len; i++) {
         size_t count;
         size_t sent;
-        if (uart_tty_send_expansion(tty, text[byte], &count, &sent) != U16550_OK) {
+        if (uart_tty_send_expansion(tty, text[i], &count, &sent) != U16550_OK) {
             *stalled_at = done <= SIZE_MAX - sent ? done + sent : SIZE_MAX;
             return U16550_STALLED;
         }
@@ -5398,9 +5362,8 @@ static inline void uart_half_duplex_turn(struct u16550_core_half_duplex *half_du
  * Call it some time after u16550_bus_is_idle was true or u16550_bus_flush returned: some chips
  * show an empty transmitter while the last stop bit is still on the line.
  *
- * Errors
- *
- * false if the transmitter is not empty. Nothing was written, and the direction is as it was.
+ * Returns false if the transmitter is not empty. Nothing was written, and the direction is as it
+ * was.
  *
  * Proved: a look at LSR shows that the transmitter is empty, and the transceiver is switched to
  * receive; or it shows that it is not, and nothing else is done.
@@ -5481,9 +5444,7 @@ uart_half_duplex_receive_with_errors(struct u16550_core_half_duplex *half_duplex
  *
  * Does not wait. Call it again with the rest of the array to send more.
  *
- * Errors
- *
- * false if the direction is not to send. No access was made.
+ * Returns false if the direction is not to send. No access was made.
  *
  * Proved: while the direction is to send, a u16550_send_bytes of the driver; else nothing, and the
  * error.

@@ -1118,7 +1118,7 @@ int u16550_set_break(struct u16550 *uart, uint8_t on);
 /* --------------------------------------------------------------- sending and receiving */
 
 /* These two and the next two do not wait. They return U16550_RECEIVE_NO_DATA or an enum u16550_send_error. */
-/* Proved: one read of LSR, which shows a received byte exactly if the result is true. */
+/* Proved: one read of LSR, which shows a received byte exactly if the result is U16550_OK. */
 int u16550_ready_to_receive(struct u16550 *uart);
 /*
  * Proved: one send check: LSR shows THR_EMPTY and, if CTS is checked, the modem lines allow
@@ -1246,7 +1246,7 @@ int u16550_is_idle(struct u16550 *uart, uint8_t *idle);
  */
 /*
  * Proved: one read of MCR, which shows all bits set, as a bus does that nobody drives, exactly if
- * the result is true.
+ * the result is U16550_OK.
  */
 int u16550_is_gone(struct u16550 *uart, uint8_t *gone);
 

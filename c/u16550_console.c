@@ -494,9 +494,7 @@ static inline uint8_t uart_enter_loopback(struct u16550_console *uart)
  * Does not wait: reads LSR once. The error bits that this clears are saved for the next
  * u16550_console_lsr.
  *
- * Errors
- *
- * false if no byte is available.
+ * Returns false if no byte is available.
  *
  * Proved: one read of LSR, which shows a received byte exactly if the result is true.
  */
@@ -511,9 +509,7 @@ static inline bool uart_ready_to_receive(struct u16550_console *uart)
  * Does not wait. The error bits that the read of LSR clears are saved for the next
  * u16550_console_lsr; they belong to the byte that is then received, except for an overrun.
  *
- * Errors
- *
- * false if no byte is available. RBR was not read then.
+ * Returns false if no byte is available. RBR was not read then.
  *
  * Proved: LSR shows a received byte, which is read from DATA and returned; or LSR shows none.
  */
@@ -565,8 +561,8 @@ static inline int uart_ready_to_send(struct u16550_console *uart)
 /* Writes the bytes to DATA in order. */
 static inline void uart_write_data(const uint8_t *bytes, size_t bytes_len)
 {
-    for (size_t byte = 0; byte < bytes_len; byte++)
-        uart_device_write(UART_DATA, bytes[byte]);
+    for (size_t i = 0; i < bytes_len; i++)
+        uart_device_write(UART_DATA, bytes[i]);
 }
 
 /* Writes bytes from the front to DATA, at most so many, and returns how many. */
@@ -1033,10 +1029,10 @@ uart_tty_write_raw_text(struct u16550_console *uart, const uint8_t *text, size_t
     size_t *stalled_at)
 {
     size_t done = 0;
-    for (size_t byte = 0; byte < text_len; byte++) {
+    for (size_t i = 0; i < text_len; i++) {
         size_t count;
         size_t sent;
-        if (uart_tty_send_expansion(uart, text[byte], &count, &sent) != U16550_CONSOLE_OK) {
+        if (uart_tty_send_expansion(uart, text[i], &count, &sent) != U16550_CONSOLE_OK) {
             *stalled_at = done <= SIZE_MAX - sent ? done + sent : SIZE_MAX;
             return U16550_CONSOLE_STALLED;
         }

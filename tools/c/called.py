@@ -36,6 +36,8 @@ FUNCTIONS = {
 }
 # Functions that only call another one, which stands in the place of their calls; and those that are another one, which is called instead.
 PASSED_ON = {"uart_isr_interrupt_type"}
+# Functions whose one value stands in the place of their calls: each field of a register is set once.
+WRITTEN_OUT = {"uart_lcr_with_word_length", "uart_lcr_with_parity"}
 SAME = {"uart_read_plain": "uart_read_register"}
 # Members of structs, by their crate and name.
 MEMBERS = {("uart_16550", "Expansion"): ["text", "len"]}
@@ -52,6 +54,13 @@ TABLES: dict[tuple[int, ...], str] = {
 # Variables, by the function and the name that they would have.
 VARIABLES = {
     ("uart_half_bits_of_character", "number"): "parity",
+    ("uart_lcr_of_config", "lcr2"): "word_length",
+    ("uart_lcr_of_config", "frame"): "lcr",
+    ("uart_write_data", "byte"): "i",
+    ("uart_level_of", "fifo_trigger_level"): "level",
+    ("uart_level_of", "fifo_trigger_level2"): "none",
+    ("uart_change_fifos", "fifo_trigger_level"): "none",
+    ("uart_tty_write_raw_text", "byte"): "i",
     ("uart_half_bits_of_character", "number2"): "stop",
     ("uart_multiply_divide", "found"): "whole",
     ("uart_multiply_divide", "number"): "part",

@@ -131,7 +131,11 @@ class Words:
         out = self.said.text("\n".join(lines))
         for pattern, word in IDLE:
             out = re.sub(pattern, word, out)
-        return NAME.sub(lambda found: self.at(out, found), out).split("\n")
+        out = NAME.sub(lambda found: self.at(out, found), out)
+        if self.is_true:
+            # What returns no number has no error.
+            out = re.sub(r"^[# ]*Errors\n\s*\n\s*false if", r"Returns false if", out, flags=re.M)
+        return out.split("\n")
 
     def at(self, text: str, found: re.Match[str]) -> str:
         """A name where it stands: a sentence begins with a large letter."""

@@ -123,25 +123,27 @@ def made(folder: pathlib.Path | None) -> tuple[dict[str, str], Library]:
     texts = [text_of("layer_arithmetic.c"), text_of("layer_top.c"), functions, guards, codes, by_hand, rows, interface.texts()]
     own = named_in([one for one in library.types.declarations if not one[0].startswith("u16550_core")], "\n".join(texts))
     # What the header calls it.
-    proved = {
-        one.name.removeprefix("uart_"): proved_lines([said.replace("*stalled_at", "*done") for said in one.proved])
-        for one in library.order
-        if one.proved
-    }
+    proved = {one.name.removeprefix("uart_"): proved_lines([in_the_header(said) for said in one.proved]) for one in library.order if one.proved}
     header_text = header.of_c(text_of("header_c.h"), version(), "\n".join(in_header), proved)
-    source = [TOP + constants(library, header_text), "\n".join(own), *texts]
+    source = [TOP + constants(library, header_text, "\n".join(texts)), "\n".join(own), *texts]
     of_source, of_header = parts.divided("\n".join(source), header_text)
     return {"u16550.h": of_header, "u16550.c": of_source}, library
 
 
-def constants(library: Library, header_text: str) -> str:
-    """The offsets of registers, and those bits that the header has not."""
+def in_the_header(said: str) -> str:
+    """What is proved of a call as its header says it: each returns a number."""
+    return said.replace("*stalled_at", "*done").replace("if the result is true", "if the result is U16550_OK")
+
+
+def constants(library: Library, header_text: str, code: str) -> str:
+    """The offsets of registers, and those bits of the code that the header has not."""
     shown = {name: int(value, 16) for name, value in re.findall(r"\b(U16550_\w+) = (0x[0-9a-f]+)", header_text)}
     for name, value in library.bits.items():
         if shown.get(name, value) != value:
             sys.exit(f"emit: {name} is {shown[name]:#x} in the header, and {value:#x} in what is proved")
     offsets = [f"    UART_{name} = {value}" for name, value in sorted(library.offsets.items(), key=lambda one: (one[1], one[0]))]
-    bits = [f"    {name} = {value:#04x}" for name, value in sorted(library.bits.items(), key=in_order) if name not in shown]
+    hidden = {name: value for name, value in library.bits.items() if name not in shown and re.search(rf"\b{name}\b", code)}
+    bits = [f"    {name} = {value:#04x}" for name, value in sorted(hidden.items(), key=in_order)]
     return (
         "/* Numbers of the driver. */\nenum {\n"
         + ",\n".join(numbers_of(library.numbers))
@@ -149,7 +151,7 @@ def constants(library: Library, header_text: str) -> str:
         + "".join(macros_of(library.numbers))
         + "\n/* Where the registers are. */\nenum {\n"
         + ",\n".join(offsets)
-        + "\n};\n\n/* Bits that are in no interface. */\nenum {\n"
+        + "\n};\n\n/* Bits of registers that the header does not need. */\nenum {\n"
         + ",\n".join(bits)
         + "\n};\n"
     )

@@ -296,6 +296,8 @@ class Library:
         # The calls that are made in the place of those which only pass on their arguments, and parameters that nothing reads any more.
         self.passed_on, self.unread = set[str](), dict[str, set[int]]()
         self.instead = dict[str, tuple[c.Expression, list[c.Variable]]]()
+        # The bits that results of a function have, if it returns nothing but constants.
+        self.bits_of = dict[str, int]()
         # Whether functions that return codes of fields shift them; and the functions in whose place another one is called.
         self.are_codes_shifted, self.joined = False, set[str]()
         # What comments say otherwise in this pair.
@@ -595,10 +597,11 @@ class Library:
             if any(passes.outer_calls(each) for order, each in enumerate(one.arguments) if order not in left):
                 raise Unknown(f"a call of {one.name} with one that would be left out")
             if one.name in self.instead:
-                return with_arguments(*self.instead[one.name], arguments)
+                return c.rebuilt(with_arguments(*self.instead[one.name], arguments), passes.simpler)
             return dataclasses.replace(one, arguments=arguments, expects=tuple(one.expects[order] for order in left) if one.expects else ())
 
         passes.on_expressions(written.statements, change)
+        readable.without_idle_masks(written.statements, self.bits_of)
 
     def without_unread_lengths(self, written: Written) -> list[c.Variable]:
         """Leaves out the lengths of arrays that nothing reads. Returns the parameters that are left."""
@@ -614,6 +617,12 @@ class Library:
         call = passes.passed_on(written.statements, written.parameters)
         if written.name in called.PASSED_ON and isinstance(call, c.CallOf):
             self.instead[written.name] = (call, [*written.parameters])
+        last = written.statements[-1]
+        bits = readable.bits_of_results(written.statements)
+        if bits is not None:
+            self.bits_of[written.name] = bits
+        if not self.fixed and written.name in called.WRITTEN_OUT and isinstance(last, c.Return) and last.value:
+            self.instead[written.name] = (last.value, [*written.parameters])
 
     def note_unread(self, written: Written) -> None:
         """Leaves out the parameters that nothing reads, and notes of a function whether another one stands in the place of its calls."""
@@ -796,7 +805,7 @@ class Library:
         (one, its), (_, last) = found.items()
         self.other_numbers[name] = found
         self.helpers[name] = (
-            f"/* The number of an error that is in another one. */\nstatic inline int {name}(int error)\n{{\n"
+            f"/* The same error as a call names it that makes the one which failed. */\nstatic inline int {name}(int error)\n{{\n"
             f"    return error == {one} ? {its} : {last};\n}}\n"
         )
         return c.CallOf(name, [parts[0]], INT, True, (INT,))
@@ -1168,7 +1177,7 @@ class Library:
         in_loops, out, text = self.called_in_loops(), list[Written](), "" if self.exports else None
         calls = {part.name for one in self.order for part in c.all_parts(one.statements) if isinstance(part, c.CallOf)}
         for one in reversed(self.order):
-            if one.name not in calls and (one.name in self.inlined or one.name in called.PASSED_ON or one.name in self.joined):
+            if one.name not in calls and (one.name in self.inlined or one.name in called.PASSED_ON | called.WRITTEN_OUT | self.joined):
                 continue
             if text is None or one.is_public or re.search(rf"\b{one.name}\(", text):
                 out.insert(0, one)

@@ -126,6 +126,8 @@ IN_TRANSLATOR_OF_DRIVER = [
     ("a success where the failure comes first", "readable.py", "c.If(passes.simpler(c.negated(test.condition)), [last], [])",
      "c.If(test.condition, [last], [])"),
     ("a low byte of seven bits", "readable.py", "c.Literal(0xFF,", "c.Literal(0x7F,"),
+    ("a mask goes that clears a bit", "readable.py", "return one.left if bits is not None and bits & one.right.value == bits else one",
+     "return one.left if bits is not None else one"),
     ("two tests where one is enough", "readable.py", '"||" if first.name == "true" else "&&"', '"&&" if first.name == "true" else "||"'),
     ("the opposite of what is returned", "readable.py",
      'holds = test.condition if first.name == "true" else passes.simpler(c.negated(test.condition))', "holds = test.condition"),

@@ -2,7 +2,7 @@
 from __future__ import annotations
 
 import dataclasses
-from collections.abc import Callable, Iterator
+from collections.abc import Callable, Iterator, Mapping
 
 import passes
 import syntax as c
@@ -111,6 +111,35 @@ def opposite(one: c.Expression) -> c.Expression:
     if isinstance(one, c.Binary) and one.operator in c.LOGICAL:
         return c.Binary("||" if one.operator == "&&" else "&&", opposite(one.left), opposite(one.right), c.BOOL)
     return passes.simpler(c.negated(one))
+
+
+def bits_of_results(statements: Statements) -> int | None:
+    """The bits that are in some result of a function, if it returns nothing but constants."""
+    bits = 0
+    for one in c.all_statements(statements):
+        if isinstance(one, c.Return):
+            if not isinstance(one.value, c.Literal):
+                return None
+            bits |= one.value.value
+    return bits
+
+
+def without_idle_masks(statements: Statements, bits_of: Mapping[str, int]) -> None:
+    """Without masks that clear no bit of what a function returned: `bits_of` has the bits that are in some result of it."""
+    facts = passes.Facts(statements)
+    known = dict[c.Variable, int]()
+    for one in c.all_statements(statements):
+        if isinstance(one, c.Set) and isinstance(one.to, c.Var) and isinstance(one.value, c.CallOf) and one.value.name in bits_of:
+            if facts.definitions.get(one.to.variable) == 1:
+                known[one.to.variable] = bits_of[one.value.name]
+
+    def change(one: c.Expression) -> c.Expression:
+        if isinstance(one, c.Binary) and one.operator == "&" and isinstance(one.left, c.Var) and isinstance(one.right, c.Literal):
+            bits = known.get(one.left.variable)
+            return one.left if bits is not None and bits & one.right.value == bits else one
+        return one
+
+    passes.on_expressions(statements, change)
 
 
 def is_little(body: Statements) -> bool:

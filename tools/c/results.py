@@ -35,7 +35,6 @@ NAMES = (
     (r"cells_in_memory", "cells"),
     (r"\w*interrupt_type\w*", "interrupt"),
     (r"take_errors", "errors"),
-    (r"level_of", "level"),
     (r"stuck_reason|look_once_more|count_\w+", "why"),
     (r"dll_dlm|attach", "latch"),
     (r"\w*fault", "fault"),
@@ -43,6 +42,9 @@ NAMES = (
     (r"send_some|receive_some|read|write|send_bytes|copy_\w+|send_expansion", "count"),
     (r"\w*_ready", "ready"),
 )
+
+# Functions whose callers pass on what they return, whether there is something or not: it stays one value.
+PASSED_ON = ("level_of",)
 
 
 @dataclasses.dataclass(frozen=True)
@@ -115,7 +117,7 @@ class Form:
 def form_of(types: Representation, of: Type, function: str, is_size: bool) -> Form | None:
     """How a function that returns this does it, or None if it is one value in C. `is_size` says whether its numbers of 64 bits are sizes."""
     kind = types.kind(of) if of != "Unit" else None
-    if kind is None or kind.kind not in ("option", "outcome", "either", "status"):
+    if kind is None or kind.kind not in ("option", "outcome", "either", "status") or function.endswith(PASSED_ON):
         return None
 
     def out(path: Path, inner: Type, name: str) -> list[Out]:
