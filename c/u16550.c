@@ -11,11 +11,27 @@
  */
 #include "u16550.h"
 
+/* For a switch of many cases: gcc for Cortex-M0 would make a table of it where code is to be small, and call its library for that. */
+#if defined(__GNUC__) && !defined(__clang__) && defined(__OPTIMIZE_SIZE__) && defined(__thumb__) && !defined(__thumb2__)
+#define UART_NO_TABLE __attribute__((__optimize__("no-jump-tables")))
+#else
+#define UART_NO_TABLE
+#endif
+
 /* Numbers of the driver. */
 enum {
+    UART_ALL_INTERRUPTS = 0xff,
     UART_BUSY = 1,
     UART_BUSY_DETECT = 0x07,
     UART_CAUSE = 0x0f,
+    UART_CODE = 0x0f,
+    UART_CODE_DATA_READY = 0x04,
+    UART_CODE_DMA_RX_END = 0x0e,
+    UART_CODE_DMA_TX_END = 0x0a,
+    UART_CODE_LINE_STATUS = 0x06,
+    UART_CODE_MODEM_STATUS = 0x00,
+    UART_CODE_THR_EMPTY = 0x02,
+    UART_CODE_TIMEOUT = 0x0c,
     UART_FIFO_SIZE = 16,
     UART_FIRST_PATTERN = 0x42,
     UART_FLOOD = 257,
@@ -23,8 +39,10 @@ enum {
     UART_LEAST_LIMIT = 6,
     UART_MAX_CAPACITY = 4096,
     UART_MAX_INTERRUPTS = 8,
+    UART_MAX_PRESCALER = 15,
     UART_MOST_WAITING = 17,
     UART_ROUNDS = 4,
+    UART_SAMPLES_PER_BIT = 16,
     UART_SECOND_PATTERN = 0x73,
     UART_SERVING_DATA = 0x04,
     UART_SERVING_NONE = 0x01,
@@ -34,6 +52,11 @@ enum {
     UART_XOFF = 0x13,
     UART_XON = 0x11
 };
+#define UART_DEFAULT_FREQUENCY UINT32_C(1843200)
+#define UART_DEFAULT_SPIN_LIMIT UINT32_C(1000000)
+#define UART_MOST_32 UINT32_C(4294967295)
+#define UART_MOST_64 ((uint64_t)-1)
+#define UART_NANOSECONDS_PER_SECOND UINT32_C(1000000000)
 
 /* Where the registers are. */
 enum {
@@ -50,26 +73,31 @@ enum {
     UART_SPR = 7
 };
 
-/* Bits that are in no interface. */
+/* Bits of registers that the header does not need. */
 enum {
     U16550_FCR_FIFO_64_ENABLE = 0x20,
     U16550_FCR_FIFO_ENABLE = 0x01,
     U16550_FCR_RX_FIFO_RESET = 0x02,
     U16550_FCR_RX_FIFO_TRIGGER_LEVEL = 0xc0,
+    U16550_FCR_TRIGGER_1 = 0x00,
+    U16550_FCR_TRIGGER_4 = 0x40,
+    U16550_FCR_TRIGGER_8 = 0x80,
+    U16550_FCR_TRIGGER_14 = 0xc0,
     U16550_FCR_TX_FIFO_RESET = 0x04,
     U16550_ISR_DMA_RX_END = 0x10,
     U16550_ISR_FIFOS_ENABLED = 0xc0,
     U16550_ISR_FIFO_64_ENABLED = 0x20,
-    U16550_ISR_IIC_0 = 0x02,
-    U16550_ISR_IIC_1 = 0x04,
-    U16550_ISR_IIC_2 = 0x08,
     U16550_ISR_INTERRUPT_STATUS = 0x01,
     U16550_LCR_DLAB = 0x80,
     U16550_LCR_MORE_STOP_BITS = 0x04,
-    U16550_LCR_PARITY = 0x38,
-    U16550_LCR_PARITY2 = 0x20,
+    U16550_LCR_PARITY_ENABLE = 0x08,
+    U16550_LCR_PARITY_EVEN = 0x10,
+    U16550_LCR_PARITY_STICK = 0x20,
     U16550_LCR_SET_BREAK = 0x40,
-    U16550_LCR_WORD_LENGTH = 0x03,
+    U16550_LCR_WORD_LENGTH_5 = 0x00,
+    U16550_LCR_WORD_LENGTH_6 = 0x01,
+    U16550_LCR_WORD_LENGTH_7 = 0x02,
+    U16550_LCR_WORD_LENGTH_8 = 0x03,
     U16550_LSR_CHARACTER_ERRORS = 0x1c,
     U16550_LSR_LINE_ERRORS = 0x1e,
     U16550_MSR_CHANGES = 0x0f
@@ -166,12 +194,6 @@ struct uart_handled_or_stuck_error {
 struct uart_lowered {
     struct uart_handled_or_stuck_error handled;
     uint8_t enabled;
-};
-#endif
-
-#ifndef U16550_OMIT_TIMES
-struct uart_u64_4 {
-    uint64_t bytes[4];
 };
 #endif
 
@@ -428,19 +450,13 @@ static inline void uart_first_to_last(struct u16550_received *items, size_t coun
 }
 #endif
 
-/* The number of an error that is in another one. */
+/* The same error as a call names it that makes the one which failed. */
 static inline int uart_init_error_of(int error)
 {
     return error == U16550_FRAME_NON_INTEGER_DIVISOR ? U16550_INIT_NON_INTEGER_DIVISOR : U16550_INIT_DIVISOR_OUT_OF_RANGE;
 }
 
 #ifndef U16550_OMIT_LOOPBACK
-/* The number of an error that is in another one. */
-static inline int uart_loopback_error_of(int error)
-{
-    return error == U16550_SEND_NO_CAPACITY ? U16550_LOOPBACK_NO_CAPACITY : U16550_LOOPBACK_NOT_CLEAR_TO_SEND;
-}
-
 /* Returns whether so many bytes are the same. */
 static inline bool uart_same_bytes(const uint8_t *one, const uint8_t *other, size_t count)
 {
@@ -458,6 +474,18 @@ static const uint8_t uart_test_message[16] =
 static const uint8_t uart_erase_text[3] = { '\b', ' ', '\b' };
 
 static const uint8_t uart_newline_text[3] = { '\r', '\n', 0 };
+
+#ifndef U16550_OMIT_TIMES
+static const uint8_t uart_levels_of_16[4] = { 1, 4, 8, 14 };
+
+static const uint8_t uart_levels_of_32[4] = { 8, 16, 24, 28 };
+
+static const uint8_t uart_levels_of_64[4] = { 1, 16, 32, 56 };
+
+static const uint8_t uart_levels_of_128[4] = { 16, 32, 112, 120 };
+
+static const uint8_t uart_levels_of_256[4] = { 1, 64, 128, 254 };
+#endif
 
 /* Reads a register of which no bits are saved. */
 static inline uint8_t uart_read_register(struct u16550_core_driver *uart, size_t offset)
@@ -550,11 +578,11 @@ static int uart_attach(struct u16550_core_driver *uart, struct uart_latch *latch
         return U16550_ATTACH_DIVISOR_LATCH_OPEN;
     if ((uart_mcr(uart) & U16550_MCR_LOOP_BACK) != 0)
         return U16550_ATTACH_LOOPBACK;
-    struct uart_latch found_latch = uart_dll_dlm(uart);
-    if (found_latch.dll == 0 && found_latch.dlm == 0)
+    struct uart_latch shown = uart_dll_dlm(uart);
+    if (shown.dll == 0 && shown.dlm == 0)
         return U16550_ATTACH_NO_DIVISOR;
     uart->fifo_enabled = uart_isr_fifo_enabled(uart_isr(uart));
-    *latch = found_latch;
+    *latch = shown;
     return U16550_OK;
 }
 
@@ -621,7 +649,8 @@ static inline bool uart_config_is_computable(const struct u16550_core_config *co
     if ((config->frequency == 0) || (uart_baud_rate_bps(config->baud_rate) == 0))
         return false;
     struct u16550_core_maybe_u32 prescaler_division_factor = config->prescaler_division_factor;
-    return !prescaler_division_factor.is_some || (prescaler_division_factor.value <= 15);
+    uint32_t prescaler = prescaler_division_factor.is_some ? prescaler_division_factor.value : 0;
+    return prescaler <= UART_MAX_PRESCALER;
 }
 
 /* Returns the quotient if there is no remainder. */
@@ -634,19 +663,17 @@ static inline bool uart_whole_quotient(uint32_t dividend, uint64_t divisor, uint
 }
 
 /*
- * Returns the divisor for a baud rate, or the baud rate for a divisor: the two are factors of one
- * product. So both errors have one relation, 'this result and no other', over one equation that is
- * a product, while the code divides.
- *
- * The ticks are computed in 64 bits: they reach 16 * 16 * (2^32 - 1).
+ * Returns the divisor for a baud rate, or the baud rate for a divisor, if it is a whole number:
+ * frequency / (16 * (prescaler + 1) * factor), where the factor is what is given of the two. The
+ * product is computed in 64 bits: it reaches 16 * 16 * (2^32 - 1).
  */
 static inline bool
 uart_divide_clock(uint32_t frequency, uint32_t factor,
     struct u16550_core_maybe_u32 prescaler_division_factor, uint32_t *quotient)
 {
     uint32_t prescaler = prescaler_division_factor.is_some ? prescaler_division_factor.value : 0;
-    return uart_whole_quotient(frequency, uart_product_64(16 * ((uint64_t)prescaler + 1), factor),
-        quotient);
+    return uart_whole_quotient(frequency,
+        uart_product_64(UART_SAMPLES_PER_BIT * ((uint64_t)prescaler + 1), factor), quotient);
 }
 
 /*
@@ -654,13 +681,13 @@ uart_divide_clock(uint32_t frequency, uint32_t factor,
  *
  * Errors
  *
- * - U16550_FRAME_NON_INTEGER_DIVISOR, with the arguments, if no whole divisor gives exactly this
- *   baud rate. At the usual clock that is the case for 110 baud.
- * - U16550_FRAME_DIVISOR_OUT_OF_RANGE, with the divisor, if one does, but it does not fit into the
- *   divisor latch of 16 bits.
+ * - U16550_FRAME_NON_INTEGER_DIVISOR if no whole divisor gives exactly this baud rate. At the
+ *   usual clock that is the case for 110 baud.
+ * - U16550_FRAME_DIVISOR_OUT_OF_RANGE if one does, but it does not fit into the divisor latch of
+ *   16 bits.
  *
- * Proved: the divisor that gives exactly this baud rate, if it fits into the divisor latch; an
- * error with the divisor if it does not fit; an error with the arguments if no whole divisor does.
+ * Proved: the divisor that gives exactly this baud rate, if it fits into the divisor latch; the
+ * error that says so if it does not fit, or if no whole divisor does.
  */
 static int
 uart_calc_divisor(uint32_t frequency, uint32_t baud_rate,
@@ -669,7 +696,7 @@ uart_calc_divisor(uint32_t frequency, uint32_t baud_rate,
     uint32_t quotient;
     if (!uart_divide_clock(frequency, baud_rate, prescaler_division_factor, &quotient))
         return U16550_FRAME_NON_INTEGER_DIVISOR;
-    if (quotient > UINT32_C(65535))
+    if (quotient > UINT16_MAX)
         return U16550_FRAME_DIVISOR_OUT_OF_RANGE;
     *divisor = (uint16_t)quotient;
     return U16550_OK;
@@ -685,87 +712,65 @@ static bool uart_configured_divisor(const struct u16550_core_driver *uart, uint1
     if (!uart_config_is_computable(&uart->config))
         return false;
     uint32_t baud_rate = uart_baud_rate_bps(uart->config.baud_rate);
-    uint16_t found_divisor;
+    uint16_t exact;
     if (uart_calc_divisor(uart->config.frequency, baud_rate,
-        uart->config.prescaler_division_factor, &found_divisor) != U16550_OK) {
+        uart->config.prescaler_division_factor, &exact) != U16550_OK) {
         return false;
     }
-    *divisor = found_divisor;
+    *divisor = exact;
     return true;
 }
 
 /*
- * Returns the code of this word length, in the low two bits.
+ * Returns this word length as LCR has it.
  *
- * Proved: the field is the code of this word length.
+ * Proved: these bits are the code of this word length.
  */
-static uint8_t uart_word_length_code(uint8_t word_length)
+static uint8_t uart_lcr_of_word_length(uint8_t word_length)
 {
     switch (word_length) {
     case U16550_CORE_WORD_LENGTH_FIVE_BITS:
-        return 0x00;
+        return U16550_LCR_WORD_LENGTH_5;
     case U16550_CORE_WORD_LENGTH_SIX_BITS:
-        return 0x01;
+        return U16550_LCR_WORD_LENGTH_6;
     case U16550_CORE_WORD_LENGTH_SEVEN_BITS:
-        return 0x02;
+        return U16550_LCR_WORD_LENGTH_7;
     case U16550_CORE_WORD_LENGTH_EIGHT_BITS:
     default:
-        return 0x03;
+        return U16550_LCR_WORD_LENGTH_8;
     }
 }
 
 /*
- * Returns the register with this word length. No other bit changes.
+ * Returns this parity as LCR has it.
  *
- * Proved: the field is the code of this word length.
- * Proved: no other bit changes.
+ * Proved: these bits are a code of this parity.
  */
-static inline uint8_t uart_lcr_set_word_length(uint8_t lcr, uint8_t length)
-{
-    return (lcr & (uint8_t)~U16550_LCR_WORD_LENGTH) | uart_word_length_code(length);
-}
-
-/*
- * Returns the code of this parity, in the low three bits.
- *
- * Proved: the field is a code of this parity.
- */
-static uint8_t uart_parity_code(uint8_t parity)
+static uint8_t uart_lcr_of_parity(uint8_t parity)
 {
     switch (parity) {
     case U16550_PARITY_NONE:
         return 0x00;
     case U16550_PARITY_ODD:
-        return 0x01;
+        return U16550_LCR_PARITY_ENABLE;
     case U16550_PARITY_EVEN:
-        return 0x03;
+        return U16550_LCR_PARITY_ENABLE | U16550_LCR_PARITY_EVEN;
     case U16550_PARITY_FORCED_1:
-        return 0x05;
+        return U16550_LCR_PARITY_ENABLE | U16550_LCR_PARITY_STICK;
     case U16550_PARITY_FORCED_0:
     default:
-        return 0x07;
+        return U16550_LCR_PARITY_ENABLE | U16550_LCR_PARITY_EVEN | U16550_LCR_PARITY_STICK;
     }
-}
-
-/*
- * Returns the register with this parity. No other bit changes.
- *
- * Proved: the field is a code of this parity.
- * Proved: no other bit changes.
- */
-static inline uint8_t uart_lcr_set_parity(uint8_t lcr, uint8_t parity)
-{
-    return (lcr & (uint8_t)~U16550_LCR_PARITY) | (uint8_t)(uart_parity_code(parity) << 3);
 }
 
 /* Returns LCR for a configuration. */
 static inline uint8_t uart_lcr_of_config(const struct u16550_core_config *config)
 {
-    uint8_t lcr = uart_lcr_set_word_length(0, config->data_bits);
-    uint8_t frame = uart_lcr_set_parity(lcr, config->parity);
+    uint8_t word_length = uart_lcr_of_word_length(config->data_bits);
+    uint8_t lcr = word_length | uart_lcr_of_parity(config->parity);
     if (config->extra_stop_bits)
-        frame |= U16550_LCR_MORE_STOP_BITS;
-    return frame;
+        lcr |= U16550_LCR_MORE_STOP_BITS;
+    return lcr;
 }
 
 /*
@@ -927,7 +932,7 @@ uart_check_registers(struct u16550_core_driver *uart, uint8_t frame, uint8_t out
  * outputs to the modem and the interrupts, the divisor, and whether the FIFOs are on.
  *
  * What is expected is the configuration of the driver (config), these outputs, which after
- * u16550_init are U16550_MCR_READY, and the FIFOs as fifo_enabled says. LOOP_BACK is left out of
+ * u16550_init are DTR, RTS and OUT2, and the FIFOs as fifo_enabled says. LOOP_BACK is left out of
  * the outputs. A break may be on.
  *
  * Call it after u16550_init, u16550_init_with, u16550_set_frame or u16550_set_frame_when_idle on a
@@ -1153,35 +1158,34 @@ static inline uint8_t uart_fifo_level(const struct u16550_core_driver *uart)
 }
 
 /*
- * Returns the code of this trigger level, in the low two bits.
+ * Returns this trigger level as FCR has it.
  *
- * Proved: the field is the code of this trigger level.
+ * Proved: these bits are the code of this trigger level.
  */
-static uint8_t uart_fifo_trigger_level_code(uint8_t fifo_trigger_level)
+static uint8_t uart_fcr_of_trigger_level(uint8_t fifo_trigger_level)
 {
     switch (fifo_trigger_level) {
     case U16550_CORE_FIFO_TRIGGER_LEVEL_ONE:
-        return 0x00;
+        return U16550_FCR_TRIGGER_1;
     case U16550_CORE_FIFO_TRIGGER_LEVEL_FOUR:
-        return 0x01;
+        return U16550_FCR_TRIGGER_4;
     case U16550_CORE_FIFO_TRIGGER_LEVEL_EIGHT:
-        return 0x02;
+        return U16550_FCR_TRIGGER_8;
     case U16550_CORE_FIFO_TRIGGER_LEVEL_FOURTEEN:
     default:
-        return 0x03;
+        return U16550_FCR_TRIGGER_14;
     }
 }
 
 /*
  * Returns the register with this trigger level. No other bit changes.
  *
- * Proved: the field is the code of this trigger level.
+ * Proved: these bits are the code of this trigger level.
  * Proved: no other bit changes.
  */
-static inline uint8_t uart_fcr_set_fifo_trigger_level(uint8_t fcr, uint8_t level)
+static inline uint8_t uart_fcr_with_trigger_level(uint8_t fcr, uint8_t level)
 {
-    return (fcr & (uint8_t)~U16550_FCR_RX_FIFO_TRIGGER_LEVEL) |
-        (uint8_t)(uart_fifo_trigger_level_code(level) << 6);
+    return (fcr & (uint8_t)~U16550_FCR_RX_FIFO_TRIGGER_LEVEL) | uart_fcr_of_trigger_level(level);
 }
 
 /*
@@ -1189,7 +1193,7 @@ static inline uint8_t uart_fcr_set_fifo_trigger_level(uint8_t fcr, uint8_t level
  */
 static inline uint8_t uart_fcr_of_running_fifos(uint8_t level)
 {
-    return uart_fcr_set_fifo_trigger_level(U16550_FCR_FIFO_ENABLE, level);
+    return uart_fcr_with_trigger_level(U16550_FCR_FIFO_ENABLE, level);
 }
 
 /* Returns whether this is what a 16750 shows while its FIFOs are on and hold 64. */
@@ -1202,7 +1206,7 @@ static inline bool uart_is_64_shown(uint8_t isr)
 /*
  * Turns on the FIFOs of 64 characters of a 16750, which has FIFOs of 16 after power-on. Returns
  * whether the FIFOs hold 64 then. It does not set the size of the driver: u16550_set_fifo_size
- * does, as in the example.
+ * does.
  *
  * Call it after u16550_init, and again after a reset of the chip. The answer is whether ISR shows
  * bits 5 to 7 set and bit 4 clear after a write of FCR without DLAB, as other calls make it. A
@@ -1293,12 +1297,16 @@ static inline uint8_t uart_fifo_size(const struct u16550_core_driver *uart)
 }
 
 /* Returns the trigger level for FIFOs that are on, and none for FIFOs that are off. */
-static inline bool uart_level_of(const struct u16550_core_driver *uart, bool on, uint8_t *level)
+static struct u16550_core_maybe_fifo_trigger_level
+uart_level_of(const struct u16550_core_driver *uart, bool on)
 {
-    if (!on)
-        return false;
-    *level = uart_fifo_level(uart);
-    return true;
+    if (on) {
+        struct u16550_core_maybe_fifo_trigger_level level = { true, uart_fifo_level(uart) };
+        return level;
+    }
+    struct u16550_core_maybe_fifo_trigger_level none =
+        { false, U16550_CORE_FIFO_TRIGGER_LEVEL_ONE };
+    return none;
 }
 
 /* Returns FCR for a trigger level. */
@@ -1306,7 +1314,7 @@ static inline uint8_t uart_fcr_of_level(struct u16550_core_maybe_fifo_trigger_le
 {
     uint8_t resets = U16550_FCR_RX_FIFO_RESET | U16550_FCR_TX_FIFO_RESET;
     if (level.is_some)
-        return uart_fcr_set_fifo_trigger_level(resets | U16550_FCR_FIFO_ENABLE, level.value);
+        return uart_fcr_with_trigger_level(resets | U16550_FCR_FIFO_ENABLE, level.value);
     return resets;
 }
 
@@ -1347,9 +1355,7 @@ uart_enter_loopback(struct u16550_core_driver *uart,
  * Does not wait: reads LSR once. The error bits that this clears are saved for the next
  * u16550_lsr.
  *
- * Errors
- *
- * false if no byte is available.
+ * Returns false if no byte is available.
  *
  * Proved: one read of LSR, which shows a received byte exactly if the result is true.
  */
@@ -1364,9 +1370,7 @@ static inline bool uart_ready_to_receive(struct u16550_core_driver *uart)
  * Does not wait. The error bits that the read of LSR clears are saved for the next u16550_lsr;
  * they belong to the byte that is then received, except for an overrun.
  *
- * Errors
- *
- * false if no byte is available. RBR was not read then.
+ * Returns false if no byte is available. RBR was not read then.
  *
  * Proved: LSR shows a received byte, which is read from DATA and returned; or LSR shows none.
  */
@@ -1491,12 +1495,6 @@ uart_find_and_reset(struct u16550_core_driver *uart,
     return status;
 }
 
-/* Reads a register, and saves none of its bits. */
-static inline uint8_t uart_read_plain(struct u16550_core_driver *uart, size_t offset)
-{
-    return uart_device_read(&uart->backend, (uint8_t)offset);
-}
-
 /* Returns whether this line has changed. */
 static inline bool uart_msr_is_changed(uint8_t msr, uint8_t before, uint8_t line)
 {
@@ -1538,11 +1536,11 @@ uart_leave_loopback(struct u16550_core_driver *uart, uint8_t mcr, uint8_t ier, u
     uint8_t noted)
 {
     uart_write_register(uart, UART_MCR, mcr & (uint8_t)~U16550_MCR_OUT_2_INT_ENABLE);
-    uint8_t now = uart_read_plain(uart, UART_MSR);
+    uint8_t now = uart_read_register(uart, UART_MSR);
     uart_write_register(uart, UART_MCR, mcr);
     uart_write_register(uart, UART_IER, ier);
-    uint8_t msr_changes_since = uart_msr_changes_since(now, before);
-    uart->saved_msr |= msr_changes_since;
+    uint8_t changes = uart_msr_changes_since(now, before);
+    uart->saved_msr |= changes;
     uart->saved_lsr = noted;
 }
 
@@ -1597,8 +1595,7 @@ static int uart_find_fifo_size(struct u16550_core_driver *uart, uint8_t *size)
     if (!uart_wait_for(uart, U16550_LSR_TRANSMITTER_EMPTY))
         return U16550_FIFOS_STALLED;
     uint8_t noted = uart->saved_lsr;
-    struct u16550_core_maybe_fifo_trigger_level level;
-    level.is_some = uart_level_of(uart, true, &level.value);
+    struct u16550_core_maybe_fifo_trigger_level level = uart_level_of(uart, true);
     uint8_t before = uart_enter_loopback(uart, level);
     int status = uart_find_and_reset(uart, level, size);
     uart_leave_loopback(uart, mcr, ier, before, noted);
@@ -1615,26 +1612,21 @@ static int uart_find_fifo_size(struct u16550_core_driver *uart, uint8_t *size)
  *
  * Errors
  *
- * U16550_STALLED, with done 0, if patience answered to wait no longer, or after spin_limit
- * unsuccessful polls in a row. What was sent goes on to leave the chip.
+ * U16550_STALLED if patience answered to wait no longer, or after spin_limit unsuccessful polls in
+ * a row. What was sent goes on to leave the chip.
  *
  * Proved: with the answers of the caller: the transmitter was empty after fewer misses in a row
  * than the limit; or the wait was in vain.
  */
-static int
-uart_flush_while(struct u16550_core_driver *uart, struct uart_patience *patience,
-    size_t *stalled_at)
+static int uart_flush_while(struct u16550_core_driver *uart, struct uart_patience *patience)
 {
     uint64_t spin_limit = uart->spin_limit;
     for (uint64_t poll = 0; poll < spin_limit; poll++) {
         if ((uart_read_lsr(uart) & U16550_LSR_TRANSMITTER_EMPTY) != 0)
             return U16550_OK;
-        if (!uart_patience_keep_waiting(patience)) {
-            *stalled_at = 0;
+        if (!uart_patience_keep_waiting(patience))
             return U16550_STALLED;
-        }
     }
-    *stalled_at = 0;
     return U16550_STALLED;
 }
 
@@ -1664,7 +1656,7 @@ static void uart_set_line(struct u16550_core_driver *uart, uint16_t divisor, uin
     uart_write_register(uart, UART_LCR, 0);
     uart_write_register(uart, UART_IER, 0);
     uart_write_register(uart, UART_LCR, U16550_LCR_DLAB);
-    uart_write_register(uart, UART_DLL, (uint8_t)(divisor & 0xff));
+    uart_write_register(uart, UART_DLL, (uint8_t)divisor);
     uart_write_register(uart, UART_DLM, (uint8_t)(divisor >> 8));
     uart_write_register(uart, UART_LCR, 0);
     uart_write_register(uart, UART_LCR, frame);
@@ -1681,9 +1673,9 @@ static void uart_set_line(struct u16550_core_driver *uart, uint16_t divisor, uin
 static inline void uart_drain(struct u16550_core_driver *uart)
 {
     for (uint64_t turn = 0; turn < UART_MOST_WAITING; turn++) {
-        if ((uart_read_plain(uart, UART_LSR) & U16550_LSR_DATA_READY) == 0)
+        if ((uart_read_register(uart, UART_LSR) & U16550_LSR_DATA_READY) == 0)
             return;
-        uart_read_plain(uart, UART_DATA);
+        uart_read_register(uart, UART_DATA);
     }
 }
 
@@ -1694,9 +1686,9 @@ static inline void uart_drain(struct u16550_core_driver *uart)
  */
 static inline void uart_finish_init(struct u16550_core_driver *uart)
 {
-    uart_read_plain(uart, UART_LSR);
-    uart_read_plain(uart, UART_ISR);
-    uart_read_plain(uart, UART_MSR);
+    uart_read_register(uart, UART_LSR);
+    uart_read_register(uart, UART_ISR);
+    uart_read_register(uart, UART_MSR);
     uart->saved_lsr = 0;
     uart->saved_msr = 0;
     uart_write_register(uart, UART_IER, uart->config.interrupts);
@@ -1977,7 +1969,7 @@ static struct u16550_core_driver uart_new_with_backend(struct u16550_device back
 {
     struct u16550_core_config config;
     config.interrupts = 0;
-    config.frequency = UINT32_C(1843200);
+    config.frequency = UART_DEFAULT_FREQUENCY;
     config.prescaler_division_factor.is_some = false;
     config.prescaler_division_factor.value = 0;
     config.fifo_trigger_level.is_some = true;
@@ -1995,7 +1987,7 @@ static struct u16550_core_driver uart_new_with_backend(struct u16550_device back
     uart.fifo_size = U16550_CORE_FIFO_SIZE_SIXTEEN;
     uart.saved_lsr = 0;
     uart.saved_msr = 0;
-    uart.spin_limit = UINT32_C(1000000);
+    uart.spin_limit = UART_DEFAULT_SPIN_LIMIT;
     return uart;
 }
 
@@ -2019,17 +2011,14 @@ static bool uart_change_fifos(struct u16550_core_driver *uart, uint8_t action)
     switch (action) {
     case U16550_FIFOS_KEEP:
         return on;
-    case U16550_FIFOS_RESET: {
-        struct u16550_core_maybe_fifo_trigger_level level;
-        level.is_some = uart_level_of(uart, on, &level.value);
-        uart_write_register(uart, UART_FCR, uart_fcr_of_level(level));
+    case U16550_FIFOS_RESET:
+        uart_write_register(uart, UART_FCR, uart_fcr_of_level(uart_level_of(uart, on)));
         return on;
-    }
     case U16550_FIFOS_DISABLE:
     default: {
-        struct u16550_core_maybe_fifo_trigger_level fifo_trigger_level =
+        struct u16550_core_maybe_fifo_trigger_level none =
             { false, U16550_CORE_FIFO_TRIGGER_LEVEL_ONE };
-        uart_write_register(uart, UART_FCR, uart_fcr_of_level(fifo_trigger_level));
+        uart_write_register(uart, UART_FCR, uart_fcr_of_level(none));
         return false;
     }
     }
@@ -2146,10 +2135,11 @@ static inline bool uart_receive_one(struct u16550_core_driver *uart, uint8_t *by
  * Errors
  *
  * U16550_STALLED after spin_limit unsuccessful polls in a row: the remote sent nothing for so
- * long. The first done slots have the bytes that were received, and the other slots are unchanged.
+ * long. The first *stalled_at slots have the bytes that were received, and the other slots are
+ * unchanged.
  *
  * Proved: the slots are filled, each after its own wait; or those before the one whose wait
- * reaches the limit, as many as the error reports.
+ * reaches the limit, as many as *stalled_at says.
  */
 static int
 uart_receive_bytes_exact(struct u16550_core_driver *uart, uint8_t *buffer, size_t buffer_len,
@@ -2199,11 +2189,11 @@ uart_receive_one_while(struct u16550_core_driver *uart, struct uart_patience *ca
  * Errors
  *
  * U16550_STALLED if patience answered to wait no longer, or after spin_limit unsuccessful polls in
- * a row. The first done slots have the bytes that were received, and the other slots are
+ * a row. The first *stalled_at slots have the bytes that were received, and the other slots are
  * unchanged: a further call fills them.
  *
  * Proved: with the answers of the caller: the slots are filled, each byte after its own wait; or
- * those before the one whose wait ended in vain, as many as the error reports.
+ * those before the one whose wait ended in vain, as many as *stalled_at says.
  */
 static int
 uart_receive_bytes_while(struct u16550_core_driver *uart, uint8_t *buffer, size_t buffer_len,
@@ -2227,9 +2217,7 @@ uart_receive_bytes_while(struct u16550_core_driver *uart, uint8_t *buffer, size_
  * Does not wait. The error bits are saved for the next u16550_lsr too. u16550_receive_with_errors
  * says when an error is not shown.
  *
- * Errors
- *
- * false if no byte is available. RBR was not read then.
+ * Returns false if no byte is available. RBR was not read then.
  *
  * Proved: LSR shows a received byte, which is read from DATA and returned with the errors that LSR
  * shows; or LSR shows none.
@@ -2303,11 +2291,9 @@ uart_config_register_dump_divisor(const struct u16550_dump *config_register_dump
 static void uart_restore(struct u16550_core_driver *uart, const struct u16550_dump *dump)
 {
     uart->config.interrupts = dump->ier;
-    uint16_t config_register_dump_divisor = uart_config_register_dump_divisor(dump);
-    uart_set_line(uart, config_register_dump_divisor, dump->lcr & (uint8_t)~U16550_LCR_DLAB);
-    struct u16550_core_maybe_fifo_trigger_level level;
-    level.is_some = uart_level_of(uart, uart_isr_fifo_enabled(dump->isr), &level.value);
-    bool on = uart_set_fifo(uart, level);
+    uint16_t divisor = uart_config_register_dump_divisor(dump);
+    uart_set_line(uart, divisor, dump->lcr & (uint8_t)~U16550_LCR_DLAB);
+    bool on = uart_set_fifo(uart, uart_level_of(uart, uart_isr_fifo_enabled(dump->isr)));
     uart_set_modem_control(uart, dump->mcr);
     uart_write_register(uart, UART_SPR, dump->spr);
     uart_write_register(uart, UART_IER, dump->ier);
@@ -2364,8 +2350,8 @@ static inline size_t uart_burst_limit(const struct u16550_core_driver *uart, uin
 static inline void
 uart_write_data(struct u16550_core_driver *uart, const uint8_t *bytes, size_t bytes_len)
 {
-    for (size_t byte = 0; byte < bytes_len; byte++)
-        uart_write_byte(uart, bytes[byte]);
+    for (size_t i = 0; i < bytes_len; i++)
+        uart_write_byte(uart, bytes[i]);
 }
 
 /* Writes bytes from the front to DATA, at most so many, and returns how many. */
@@ -2447,10 +2433,8 @@ uart_send_bytes(struct u16550_core_driver *uart, const uint8_t *buffer, size_t b
 }
 
 /*
- * Waits until bytes may be written. The check stands once: where code is to be small, the compiler
- * then inlines it, and drops what a constant configuration does not ask for. Waiting and writing
- * are two functions, and this one is inlined, so that each loop that sends holds one copy of the
- * wait.
+ * Waits until bytes may be written. It is apart from the write, so that each loop that sends has
+ * one copy of the wait, which a compiler inlines.
  *
  * Proved: a wait for room: a check succeeded after fewer misses in a row than the limit, or there
  * were as many misses.
@@ -2468,8 +2452,8 @@ static inline bool uart_wait_to_send(struct u16550_core_driver *uart)
 /*
  * Waits until a burst was sent, and returns its length.
  *
- * Proved: a wait for one burst: k of the bytes were sent, or there were as many misses as the
- * limit.
+ * Proved: a wait for one burst: *count bytes from the front were sent, or there were as many
+ * misses as the limit.
  */
 static inline bool
 uart_send_some(struct u16550_core_driver *uart, const uint8_t *bytes, size_t bytes_len,
@@ -2492,11 +2476,11 @@ uart_send_some(struct u16550_core_driver *uart, const uint8_t *bytes, size_t byt
  * Errors
  *
  * U16550_STALLED after spin_limit unsuccessful checks in a row: the chip is slower than the limit
- * allows, or CTS is checked and the remote is not clear to send. The first done bytes were written
- * to the chip.
+ * allows, or CTS is checked and the remote is not clear to send. The first *stalled_at bytes were
+ * written to the chip.
  *
  * Proved: all bytes, burst by burst, each burst after its own wait; or those before the burst
- * whose wait reaches the limit, as many as the error reports.
+ * whose wait reaches the limit, as many as *stalled_at says.
  */
 static int
 uart_send_bytes_exact(struct u16550_core_driver *uart, const uint8_t *bytes, size_t bytes_len,
@@ -2544,11 +2528,11 @@ uart_wait_to_send_while(struct u16550_core_driver *uart, struct uart_patience *p
  * Errors
  *
  * U16550_STALLED if patience answered to wait no longer, or after spin_limit unsuccessful checks
- * in a row. The first done bytes were written to the chip, and the others were not: a further call
- * sends them.
+ * in a row. The first *stalled_at bytes were written to the chip, and the others were not: a
+ * further call sends them.
  *
  * Proved: with the answers of the caller: all bytes, burst by burst, each burst after its own
- * wait; or those before the burst whose wait ended in vain, as many as the error reports.
+ * wait; or those before the burst whose wait ended in vain, as many as *stalled_at says.
  */
 static int
 uart_send_bytes_while(struct u16550_core_driver *uart, const uint8_t *bytes, size_t bytes_len,
@@ -2707,7 +2691,7 @@ static inline void
 uart_write_frame(struct u16550_core_driver *uart, uint16_t divisor, uint8_t frame)
 {
     uart_write_register(uart, UART_LCR, frame | U16550_LCR_DLAB);
-    uart_write_register(uart, UART_DLL, (uint8_t)(divisor & 0xff));
+    uart_write_register(uart, UART_DLL, (uint8_t)divisor);
     uart_write_register(uart, UART_DLM, (uint8_t)(divisor >> 8));
     uart_write_register(uart, UART_LCR, frame);
 }
@@ -2819,10 +2803,8 @@ static inline void uart_set_spin_limit(struct u16550_core_driver *uart, uint64_t
  *
  * Writes FCR once, without a reset: the bytes in both FIFOs stay. Does not wait.
  *
- * Errors
- *
- * false if the FIFOs are off (fifo_enabled). No access was made, and nothing changed: a write that
- * turns the FIFOs on empties them, which u16550_init does.
+ * Returns false if the FIFOs are off (fifo_enabled). No access was made, and nothing changed: a
+ * write that turns the FIFOs on empties them, which u16550_init does.
  *
  * Proved: with the FIFOs on, the level is stored and written to FCR; with them off, nothing is
  * done, and the result is the error.
@@ -2890,9 +2872,8 @@ static inline int uart_try_send_byte(struct u16550_core_driver *uart, uint8_t by
 static int
 uart_exchange_byte(struct u16550_core_driver *uart, struct uart_loopback_failure *failure)
 {
-    int error = uart_try_send_byte(uart, UART_TEST_BYTE);
-    if (error != U16550_OK)
-        return uart_loopback_error_of(error);
+    if (uart_try_send_byte(uart, UART_TEST_BYTE) != U16550_OK)
+        return U16550_LOOPBACK_NO_CAPACITY;
     uint8_t actual;
     if (!uart_receive_one(uart, &actual))
         return U16550_LOOPBACK_STALLED;
@@ -2914,11 +2895,11 @@ static bool uart_echo_whole(struct u16550_core_driver *uart, struct uart_bytes16
     size_t stalled_at;
     if (uart_send_bytes_exact(uart, uart_test_message, 16, &stalled_at) != U16550_OK)
         return false;
-    struct uart_bytes16 found_actual;
-    uart_fill_bytes(found_actual.bytes, 0, 16);
-    if (uart_receive_bytes_exact(uart, found_actual.bytes, 16, &stalled_at) != U16550_OK)
+    struct uart_bytes16 echo;
+    uart_fill_bytes(echo.bytes, 0, 16);
+    if (uart_receive_bytes_exact(uart, echo.bytes, 16, &stalled_at) != U16550_OK)
         return false;
-    *actual = found_actual;
+    *actual = echo;
     return true;
 }
 
@@ -2928,10 +2909,10 @@ static bool uart_echo_whole(struct u16550_core_driver *uart, struct uart_bytes16
  *
  * Proved: what came back for a byte, or nothing if a wait was unsuccessful.
  */
-static inline bool uart_echo(struct u16550_core_driver *uart, uint8_t byte, uint8_t *byte_of)
+static inline bool uart_echo(struct u16550_core_driver *uart, uint8_t byte, uint8_t *echoed)
 {
     size_t count;
-    return uart_send_some(uart, &byte, 1, &count) && uart_receive_one(uart, byte_of);
+    return uart_send_some(uart, &byte, 1, &count) && uart_receive_one(uart, echoed);
 }
 
 /*
@@ -2940,15 +2921,15 @@ static inline bool uart_echo(struct u16550_core_driver *uart, uint8_t byte, uint
  */
 static bool uart_echo_each(struct u16550_core_driver *uart, struct uart_bytes16 *actual)
 {
-    struct uart_bytes16 found_actual;
-    uart_fill_bytes(found_actual.bytes, 0, 16);
+    struct uart_bytes16 echo;
+    uart_fill_bytes(echo.bytes, 0, 16);
     for (size_t i = 0; i < 16; i++) {
         uint8_t byte;
         if (!uart_echo(uart, uart_test_message[i], &byte))
             return false;
-        found_actual.bytes[i] = byte;
+        echo.bytes[i] = byte;
     }
-    *actual = found_actual;
+    *actual = echo;
     return true;
 }
 
@@ -3049,8 +3030,7 @@ uart_test_loopback(struct u16550_core_driver *uart, struct uart_loopback_failure
 /*
  * Waits until some bytes were received, and returns how many.
  *
- * Proved: a wait for bytes into n slots: some were received, or there were as many misses as the
- * limit.
+ * Proved: a wait for bytes: some were received, or there were as many misses as the limit.
  */
 static bool
 uart_receive_some(struct u16550_core_driver *uart, uint8_t *buffer, size_t buffer_len,
@@ -3058,9 +3038,9 @@ uart_receive_some(struct u16550_core_driver *uart, uint8_t *buffer, size_t buffe
 {
     uint64_t spin_limit = uart->spin_limit;
     for (uint64_t turn = 0; turn < spin_limit; turn++) {
-        size_t found_count = uart_receive_bytes(uart, buffer, buffer_len);
-        if (found_count > 0) {
-            *count = found_count;
+        size_t received = uart_receive_bytes(uart, buffer, buffer_len);
+        if (received > 0) {
+            *count = received;
             return true;
         }
     }
@@ -3073,35 +3053,30 @@ uart_receive_some(struct u16550_core_driver *uart, uint8_t *buffer, size_t buffe
  *
  * Slots beyond this number are unchanged. If the call fails, all slots are unchanged.
  */
-static int
-uart_read(struct u16550_core_driver *uart, uint8_t *buf, size_t buf_len, size_t *count,
-    size_t *stalled_at)
+static int uart_read(struct u16550_core_driver *uart, uint8_t *buf, size_t buf_len, size_t *count)
 {
     if (buf_len == 0) {
         *count = 0;
         return U16550_OK;
     }
-    if (uart_receive_some(uart, buf, buf_len, count))
-        return U16550_OK;
-    *stalled_at = 0;
-    return U16550_STALLED;
+    if (!uart_receive_some(uart, buf, buf_len, count))
+        return U16550_STALLED;
+    return U16550_OK;
 }
 
 /* Returns whether a read would find a byte without waiting. */
-static inline int uart_read_ready(struct u16550_core_driver *uart, bool *ready, size_t *stalled_at)
+static inline int uart_read_ready(struct u16550_core_driver *uart, bool *ready)
 {
-    (void)stalled_at;
     *ready = uart_ready_to_receive(uart);
     return U16550_OK;
 }
 
 /* Waits until everything that was written has been sent. */
-static inline int uart_flush(struct u16550_core_driver *uart, size_t *stalled_at)
+static inline int uart_flush(struct u16550_core_driver *uart)
 {
-    if (uart_wait_for(uart, U16550_LSR_TRANSMITTER_EMPTY))
-        return U16550_OK;
-    *stalled_at = 0;
-    return U16550_STALLED;
+    if (!uart_wait_for(uart, U16550_LSR_TRANSMITTER_EMPTY))
+        return U16550_STALLED;
+    return U16550_OK;
 }
 
 /*
@@ -3109,23 +3084,20 @@ static inline int uart_flush(struct u16550_core_driver *uart, size_t *stalled_at
  * written: 0 only if there are no bytes.
  */
 static int
-uart_write(struct u16550_core_driver *uart, const uint8_t *buf, size_t buf_len, size_t *count,
-    size_t *stalled_at)
+uart_write(struct u16550_core_driver *uart, const uint8_t *buf, size_t buf_len, size_t *count)
 {
     if (buf_len == 0) {
         *count = 0;
         return U16550_OK;
     }
-    if (uart_send_some(uart, buf, buf_len, count))
-        return U16550_OK;
-    *stalled_at = 0;
-    return U16550_STALLED;
+    if (!uart_send_some(uart, buf, buf_len, count))
+        return U16550_STALLED;
+    return U16550_OK;
 }
 
 /* Returns whether a write would find room without waiting. */
-static inline int uart_write_ready(struct u16550_core_driver *uart, bool *ready, size_t *stalled_at)
+static inline int uart_write_ready(struct u16550_core_driver *uart, bool *ready)
 {
-    (void)stalled_at;
     *ready = uart_ready_to_send(uart) == U16550_OK;
     return U16550_OK;
 }
@@ -3211,18 +3183,18 @@ uart_tty_send_expansion(struct uart_tty *tty, uint8_t byte, size_t *count, size_
  * Those of u16550_write_text.
  *
  * Proved: the expansion of the text, byte by byte, each after its own wait; or a beginning of it,
- * as long as the error reports, at most SIZE_MAX, and then a wait that reaches the limit.
+ * as long as *stalled_at says, at most SIZE_MAX, and then a wait that reaches the limit.
  */
 static int
 uart_tty_write_raw_text(struct uart_tty *tty, const uint8_t *text, size_t text_len,
     size_t *stalled_at)
 {
     size_t done = 0;
-    for (size_t byte = 0; byte < text_len; byte++) {
+    for (size_t i = 0; i < text_len; i++) {
         size_t count;
-        size_t found_stalled_at;
-        if (uart_tty_send_expansion(tty, text[byte], &count, &found_stalled_at) != U16550_OK) {
-            *stalled_at = done <= SIZE_MAX - found_stalled_at ? done + found_stalled_at : SIZE_MAX;
+        size_t sent;
+        if (uart_tty_send_expansion(tty, text[i], &count, &sent) != U16550_OK) {
+            *stalled_at = done <= SIZE_MAX - sent ? done + sent : SIZE_MAX;
             return U16550_STALLED;
         }
         done = done <= SIZE_MAX - count ? done + count : SIZE_MAX;
@@ -3284,10 +3256,10 @@ uart_kept_characters_pop(struct u16550_core_kept_characters *kept_characters,
 {
     if (kept_characters->count == 0)
         return false;
-    struct u16550_received found_received = kept_characters->cells.bytes[0];
+    struct u16550_received first = kept_characters->cells.bytes[0];
     uart_first_to_last(kept_characters->cells.bytes, UART_KEPT);
     kept_characters->count--;
-    *received = found_received;
+    *received = first;
     return true;
 }
 
@@ -3330,9 +3302,9 @@ uart_kept_characters_take_errors(struct u16550_core_kept_characters *kept_charac
 {
     if (kept_characters->count == 0)
         return false;
-    uint8_t found_errors = kept_characters->cells.bytes[0].errors;
+    uint8_t first = kept_characters->cells.bytes[0].errors;
     kept_characters->cells.bytes[0].errors = 0;
-    *errors = found_errors;
+    *errors = first;
     return true;
 }
 
@@ -3615,8 +3587,8 @@ static inline bool uart_design_ware_is_busy(struct u16550_core_design_ware *desi
 static inline bool uart_design_ware_tries(struct u16550_core_design_ware *design_ware, uint8_t line)
 {
     uart_design_ware_store(design_ware, UART_LCR, line);
-    return (uart_design_ware_load(design_ware, UART_LCR) & (uint8_t)~U16550_LCR_PARITY2) ==
-        (line & (uint8_t)~U16550_LCR_PARITY2);
+    return (uart_design_ware_load(design_ware, UART_LCR) & (uint8_t)~U16550_LCR_PARITY_STICK) ==
+        (line & (uint8_t)~U16550_LCR_PARITY_STICK);
 }
 
 /*
@@ -3675,7 +3647,7 @@ uart_kept_characters_keep(struct u16550_core_kept_characters *kept_characters,
  */
 static void uart_design_ware_keep_waiting(struct u16550_core_design_ware *design_ware)
 {
-    while (design_ware->kept.count != 64) {
+    while (design_ware->kept.count != UART_KEPT) {
         if ((uart_design_ware_look(design_ware) & U16550_LSR_DATA_READY) == 0)
             return;
         uint8_t errors = design_ware->cleared;
@@ -3839,11 +3811,7 @@ static bool uart_handle_line(struct uart_line_ports *ports, size_t limit, uint32
     return has_served;
 }
 
-/*
- * Returns whether a ring can have this capacity.
- *
- * Proved: how many bytes a ring can be made for: 1 to 4096.
- */
+/* Returns whether a ring can have this capacity. */
 static inline bool uart_is_capacity(size_t capacity)
 {
     return capacity >= 1 && capacity <= UART_MAX_CAPACITY;
@@ -3867,17 +3835,16 @@ uart_byte_queue_with_capacity(struct uart_memory *alloc, size_t capacity,
  * Returns a backend over this one, with room for the errors of so many bytes: as many as the
  * receive ring has room for. Makes no access.
  *
- * Allocates its memory; nothing later allocates.
+ * Takes its memory from *alloc.
  *
  * Errors
  *
  * - U16550_RING_BAD_CAPACITY if the capacity is 0 or more than U16550_MAX_CAPACITY.
- * - U16550_RING_OUT_OF_MEMORY if memory could not be allocated.
+ * - U16550_RING_OUT_OF_MEMORY if *alloc has less memory.
  *
- * The backend is returned with the error, unchanged.
+ * Then *device is the backend, unchanged.
  *
  * Proved: notes of nothing over this backend, with room for the errors of so many bytes.
- * Proved: how many bytes a ring can be made for: 1 to 4096.
  */
 static int
 uart_error_notes_new(struct uart_memory *alloc, struct u16550_device backend, size_t capacity,
@@ -3944,7 +3911,7 @@ uart_copy(const uint8_t *bytes, size_t bytes_len, uint8_t *slots, size_t slots_l
     size_t room = slots_len - place;
     size_t count = room < bytes_len ? room : bytes_len;
     if (count > 0)
-        uart_copy_bytes(&slots[place], bytes, place + count - place);
+        uart_copy_bytes(&slots[place], bytes, count);
     return count;
 }
 
@@ -4207,13 +4174,13 @@ static inline void uart_ring_pump(struct u16550_core_ring *ring)
  * chip takes at once is sent.
  */
 static inline bool
-uart_ring_queue_urgent(struct u16550_core_ring *ring, uint8_t byte, uint8_t *byte_of)
+uart_ring_queue_urgent(struct u16550_core_ring *ring, uint8_t byte, uint8_t *replaced)
 {
     struct u16550_core_maybe_u8 urgent = ring->urgent;
     ring->urgent.is_some = true;
     ring->urgent.value = byte;
     uart_ring_pump(ring);
-    *byte_of = urgent.value;
+    *replaced = urgent.value;
     return urgent.is_some;
 }
 
@@ -4229,8 +4196,8 @@ static bool uart_ring_tell(struct u16550_core_ring *ring, bool on, uint8_t *byte
         return false;
     ring->has_told_xoff = !on;
     uint8_t character = on ? (uint8_t)UART_XON : (uint8_t)UART_XOFF;
-    uint8_t found_byte;
-    uart_ring_queue_urgent(ring, character, &found_byte);
+    uint8_t replaced;
+    uart_ring_queue_urgent(ring, character, &replaced);
     *byte = character;
     return true;
 }
@@ -4337,8 +4304,8 @@ static inline void uart_ring_resume_transmit(struct u16550_core_ring *ring)
 }
 
 /*
- * Reads all registers, as the driver's u16550_ring_config_register_dump does, and then sends bytes
- * that wait, as u16550_ring_resume_transmit does.
+ * Reads all registers, as the driver's u16550_config_register_dump does, and then sends bytes that
+ * wait, as u16550_ring_resume_transmit does.
  *
  * ISR is among the registers, and a read of it that shows THR_EMPTY acknowledges that interrupt.
  * So after the driver's own call, bytes in the transmit ring may wait for ever. After this call
@@ -4453,43 +4420,33 @@ static inline void uart_ring_drop_taken(struct u16550_core_ring *ring, size_t co
  *
  * Proved: bit 0 is clear, so an interrupt is pending, and the code is that of this interrupt.
  */
-static bool uart_interrupt_type_from_bits(uint8_t isr_bits, uint8_t *interrupt)
+static UART_NO_TABLE bool uart_interrupt_type_from_bits(uint8_t isr_bits, uint8_t *interrupt)
 {
-    switch (isr_bits & (U16550_ISR_INTERRUPT_STATUS | U16550_ISR_IIC_0 | U16550_ISR_IIC_1 | U16550_ISR_IIC_2)) {
-    case 0x06:
+    switch (isr_bits & UART_CODE) {
+    case UART_CODE_LINE_STATUS:
         *interrupt = U16550_CORE_INTERRUPT_TYPE_RECEIVER_LINE_STATUS;
         return true;
-    case 0x04:
+    case UART_CODE_DATA_READY:
         *interrupt = U16550_CORE_INTERRUPT_TYPE_RECEIVED_DATA_READY;
         return true;
-    case 0x0c:
+    case UART_CODE_TIMEOUT:
         *interrupt = U16550_CORE_INTERRUPT_TYPE_RECEPTION_TIMEOUT;
         return true;
-    case 0x02:
+    case UART_CODE_THR_EMPTY:
         *interrupt = U16550_CORE_INTERRUPT_TYPE_TRANSMITTER_HOLDING_REGISTER_EMPTY;
         return true;
-    case 0:
+    case UART_CODE_MODEM_STATUS:
         *interrupt = U16550_CORE_INTERRUPT_TYPE_MODEM_STATUS;
         return true;
-    case 0x0e:
+    case UART_CODE_DMA_RX_END:
         *interrupt = U16550_CORE_INTERRUPT_TYPE_DMA_RECEPTION_END_OF_TRANSFER;
         return true;
-    case 0x0a:
+    case UART_CODE_DMA_TX_END:
         *interrupt = U16550_CORE_INTERRUPT_TYPE_DMA_TRANSMISSION_END_OF_TRANSFER;
         return true;
     default:
         return false;
     }
-}
-
-/*
- * Returns the pending interrupt. None if none is pending, or if its code is not known.
- *
- * Proved: bit 0 is clear, so an interrupt is pending, and the code is that of this interrupt.
- */
-static inline bool uart_isr_interrupt_type(uint8_t isr, uint8_t *interrupt)
-{
-    return uart_interrupt_type_from_bits(isr, interrupt);
 }
 
 /* Returns whether an interrupt is pending: bit 0 is clear then. */
@@ -4517,11 +4474,9 @@ static inline void uart_ring_note_line(struct u16550_core_ring *ring)
  * shows none.
  */
 static inline size_t
-uart_receive(struct u16550_core_driver *uart, uint8_t *cells, size_t cells_len, size_t place,
-    size_t slots)
+uart_receive(struct u16550_core_driver *uart, uint8_t *cells, size_t place, size_t slots)
 {
-    (void)cells_len;
-    return uart_receive_bytes(uart, &cells[place], place + slots - place);
+    return uart_receive_bytes(uart, &cells[place], slots);
 }
 
 /*
@@ -4536,12 +4491,10 @@ uart_byte_queue_receive_from(struct u16550_core_byte_queue *byte_queue,
     size_t len = byte_queue->len;
     size_t behind = uart_cell_behind(front, len, uart_byte_queue_capacity(byte_queue));
     uint8_t *cells = byte_queue->cells.data;
-    size_t cells_len = byte_queue->cells.len;
-    size_t to_end = cells_len - behind;
+    size_t to_end = byte_queue->cells.len - behind;
     size_t some = to_end < slots ? to_end : slots;
-    size_t before = uart_receive(uart, cells, cells_len, behind, some);
-    size_t count =
-        before + uart_receive(uart, cells, cells_len, 0, before == some ? slots - some : 0);
+    size_t before = uart_receive(uart, cells, behind, some);
+    size_t count = before + uart_receive(uart, cells, 0, before == some ? slots - some : 0);
     byte_queue->len += count;
     return count;
 }
@@ -4603,7 +4556,7 @@ static inline void uart_ring_note_modem(struct u16550_core_ring *ring)
  * Proved: how an interrupt is served: bytes are received, a pump is made, a status is noted, or
  * nothing is done.
  */
-static void uart_ring_serve(struct u16550_core_ring *ring, uint8_t interrupt)
+static UART_NO_TABLE void uart_ring_serve(struct u16550_core_ring *ring, uint8_t interrupt)
 {
     switch (interrupt) {
     case U16550_CORE_INTERRUPT_TYPE_RECEIVER_LINE_STATUS:
@@ -4632,12 +4585,13 @@ static void uart_ring_serve(struct u16550_core_ring *ring, uint8_t interrupt)
  *
  * Proved: as many interrupts as are pending are served, but no more than the limit.
  */
-static struct u16550_handled uart_ring_serve_up_to(struct u16550_core_ring *ring, size_t limit)
+static UART_NO_TABLE struct u16550_handled
+uart_ring_serve_up_to(struct u16550_core_ring *ring, size_t limit)
 {
     for (size_t served = 0; served < limit; served++) {
         uint8_t isr = uart_isr(&ring->uart);
         uint8_t interrupt;
-        if (!uart_isr_interrupt_type(isr, &interrupt)) {
+        if (!uart_interrupt_type_from_bits(isr, &interrupt)) {
             struct u16550_handled handled =
                 { served,
                 uart_isr_has_pending_interrupt(isr) ? (uint8_t)U16550_HANDLE_UNKNOWN
@@ -4681,14 +4635,14 @@ static inline void uart_ring_retrigger(struct u16550_core_ring *ring)
  * Call it once each time the interrupt handler runs, whether the interrupt controller detects
  * levels or edges:
  *
- * - If the end is Idle, no interrupt is pending, and the line is low. The next interrupt makes the
- *   line rise.
+ * - If the end is U16550_HANDLE_IDLE, no interrupt is pending, and the line is low. The next
+ *   interrupt makes the line rise.
  * - Otherwise an interrupt may be left, and u16550_ring_handle makes the line fall and rise again,
  *   as u16550_ring_retrigger does. So the controller calls the handler again.
  *
  * A broken chip may show interrupts for ever, and the controller then calls the handler for ever.
- * So count the calls in a row that do not end with Idle, and after a number of them disable the
- * chip's interrupts.
+ * So count the calls in a row that do not end with U16550_HANDLE_IDLE, and after a number of them
+ * disable the chip's interrupts.
  *
  * Does not wait: makes at most 35 accesses for each interrupt of the limit, and 3 more. With a
  * larger fifo_size of the driver it is twice that size and 3 in place of the 35.
@@ -4765,7 +4719,7 @@ static inline uint8_t uart_counted_as(bool has_moved, uint8_t end)
 static bool uart_stuck_reason(uint8_t isr, struct u16550_core_stuck_error *why)
 {
     uint8_t interrupt;
-    if (uart_isr_interrupt_type(isr, &interrupt)) {
+    if (uart_interrupt_type_from_bits(isr, &interrupt)) {
         why->kind = U16550_RING_STUCK_PENDING;
         why->pending = interrupt;
         return true;
@@ -4786,13 +4740,13 @@ static bool uart_stuck_reason(uint8_t isr, struct u16550_core_stuck_error *why)
 static bool
 uart_ring_look_once_more(struct u16550_core_ring *ring, struct u16550_core_stuck_error *why)
 {
-    struct u16550_core_stuck_error found_why;
-    if (uart_stuck_reason(uart_isr(&ring->uart), &found_why)) {
-        uart_disable_interrupts(&ring->uart, 0xff);
+    struct u16550_core_stuck_error reason;
+    if (uart_stuck_reason(uart_isr(&ring->uart), &reason)) {
+        uart_disable_interrupts(&ring->uart, UART_ALL_INTERRUPTS);
         ring->rounds = 0;
         ring->stuck.is_some = true;
-        ring->stuck.value = found_why;
-        *why = found_why;
+        ring->stuck.value = reason;
+        *why = reason;
         return true;
     }
     ring->rounds = 0;
@@ -4800,7 +4754,7 @@ uart_ring_look_once_more(struct u16550_core_ring *ring, struct u16550_core_stuck
 }
 
 /*
- * Counts a round that did not end with Idle, if there may be more of them in a row.
+ * Counts a round that did not end with U16550_HANDLE_IDLE, if there may be more of them in a row.
  *
  * Proved: a round was left unfinished. It is counted, if there may be more in a row.
  */
@@ -4843,15 +4797,14 @@ uart_ring_handle_round(struct u16550_core_ring *ring, size_t limit, uint32_t rou
     size_t len = ring->transmit.len;
     bool has_urgent = ring->urgent.is_some;
     size_t receive = ring->receive.len;
-    struct u16550_handled found_handled = uart_ring_handle(ring, limit);
+    struct u16550_handled round = uart_ring_handle(ring, limit);
     struct u16550_core_stuck_error why;
     if (uart_ring_count_round(ring, rounds,
-        uart_counted_as(uart_ring_has_moved(ring, len, has_urgent, receive), found_handled.end),
-        &why)) {
+        uart_counted_as(uart_ring_has_moved(ring, len, has_urgent, receive), round.end), &why)) {
         *error = why;
         return why.kind;
     }
-    *handled = found_handled;
+    *handled = round;
     return U16550_OK;
 }
 
@@ -4859,11 +4812,11 @@ uart_ring_handle_round(struct u16550_core_ring *ring, size_t limit, uint32_t rou
  * Handles the chip's interrupt as u16550_ring_handle does, and ends a storm: a chip that shows an
  * interrupt for ever gets its interrupts disabled.
  *
- * A call that does not end with Idle, and that moves no byte between the rings and the chip, is a
- * round that is left unfinished. The controller then calls the handler again, and on a broken chip
- * for ever. So this call counts such rounds. If there were rounds of them in a row, the last one
- * reads ISR once more. If that shows no interrupt, the count begins again. Otherwise the chip is
- * stuck: the call reads IER, writes 0 to it, and returns why.
+ * A call that does not end with U16550_HANDLE_IDLE, and that moves no byte between the rings and
+ * the chip, is a round that is left unfinished. The controller then calls the handler again, and
+ * on a broken chip for ever. So this call counts such rounds. If there were rounds of them in a
+ * row, the last one reads ISR once more. If that shows no interrupt, the count begins again.
+ * Otherwise the chip is stuck: the call reads IER, writes 0 to it, and returns why.
  *
  * While the chip is stuck, the rings hand no byte to it, and each further call of
  * u16550_ring_try_handle serves nothing, writes 0 to IER again, and returns the same error.
@@ -4879,7 +4832,7 @@ uart_ring_handle_round(struct u16550_core_ring *ring, size_t limit, uint32_t rou
  * wait in the transmit ring and fit into the receive ring.
  *
  * A chip whose line stays high while ISR shows no interrupt is not found: its rounds end with
- * Idle. DesignWare's busy detect is such a one.
+ * U16550_HANDLE_IDLE. DesignWare's busy detect is such a one.
  *
  * Does not wait: makes at most 35 accesses for each interrupt of the limit, which is 6 if it is
  * lower, and 6 more. With a larger fifo_size of the driver it is twice that size and 3 in place of
@@ -4903,10 +4856,10 @@ uart_ring_try_handle(struct u16550_core_ring *ring, size_t limit, uint32_t round
     struct u16550_handled *handled, struct u16550_core_stuck_error *error)
 {
     if (ring->stuck.is_some) {
-        struct u16550_core_stuck_error found_error = ring->stuck.value;
-        uart_disable_interrupts(&ring->uart, 0xff);
-        *error = found_error;
-        return found_error.kind;
+        struct u16550_core_stuck_error stuck = ring->stuck.value;
+        uart_disable_interrupts(&ring->uart, UART_ALL_INTERRUPTS);
+        *error = stuck;
+        return stuck.kind;
     }
     return uart_ring_handle_round(ring,
         limit > UART_LEAST_LIMIT ? limit : (size_t)UART_LEAST_LIMIT, rounds, handled, error);
@@ -4931,7 +4884,7 @@ uart_ring_lower_line(struct u16550_core_ring *ring, size_t limit, uint32_t round
     struct uart_handled_or_stuck_error handled;
     handled.error.kind = uart_ring_try_handle(ring, limit, rounds, &handled.value, &handled.error);
     uint8_t enabled = uart_ier(&ring->uart);
-    uart_disable_interrupts(&ring->uart, 0xff);
+    uart_disable_interrupts(&ring->uart, UART_ALL_INTERRUPTS);
     struct uart_lowered lowered = { handled, enabled };
     return lowered;
 }
@@ -4940,16 +4893,14 @@ uart_ring_lower_line(struct u16550_core_ring *ring, size_t limit, uint32_t round
  * Returns empty rings over this driver, for tx_capacity bytes that are to be sent and rx_capacity
  * received bytes.
  *
- * Makes no access. Allocates all memory of the rings; no later call allocates.
+ * Makes no access. Takes all memory of the rings from *alloc.
  *
  * Errors
  *
  * - U16550_RING_BAD_CAPACITY if a capacity is 0 or more than U16550_MAX_CAPACITY.
- * - U16550_RING_OUT_OF_MEMORY if memory could not be allocated.
+ * - U16550_RING_OUT_OF_MEMORY if *alloc has less memory.
  *
- * The driver is returned with the error, unchanged.
- *
- * Proved: how many bytes a ring can be made for: 1 to 4096.
+ * Then *driver is the driver, unchanged.
  */
 static int
 uart_ring_new(struct uart_memory *alloc, struct u16550_core_driver uart, size_t tx_capacity,
@@ -4996,10 +4947,10 @@ static bool uart_ring_last_told(const struct u16550_core_ring *ring, uint8_t *by
     size_t unlooked = ring->unlooked;
     size_t count = len < unlooked ? len : unlooked;
     for (size_t place = len - count; place < len; place++) {
-        uint8_t found_byte = uart_byte_queue_byte_at(&ring->receive, place);
-        if ((found_byte == UART_XON) || (found_byte == UART_XOFF)) {
+        uint8_t received = uart_byte_queue_byte_at(&ring->receive, place);
+        if ((received == UART_XON) || (received == UART_XOFF)) {
             told.is_some = true;
-            told.value = found_byte;
+            told.value = received;
         }
     }
     *byte = told.value;
@@ -5047,16 +4998,16 @@ static inline void uart_ring_release_transmit(struct u16550_core_ring *ring)
  */
 static bool uart_ring_obey_xoff(struct u16550_core_ring *ring, uint8_t *byte)
 {
-    uint8_t found_byte;
-    bool told = uart_ring_last_told(ring, &found_byte);
+    uint8_t last;
+    bool told = uart_ring_last_told(ring, &last);
     ring->unlooked = 0;
     if (!told)
         return false;
-    if (found_byte == UART_XON)
+    if (last == UART_XON)
         uart_ring_release_transmit(ring);
     else
         ring->is_held = true;
-    *byte = found_byte;
+    *byte = last;
     return told;
 }
 
@@ -5303,19 +5254,18 @@ static inline bool uart_ring_urgent(const struct u16550_core_ring *ring, uint8_t
 
 #ifndef U16550_OMIT_BUS
 /*
- * Waits until the transmitter is empty, at most spin_limit polls of LSR, as u16550_bus_flush of
- * the driver does. The direction stays as it is.
+ * Waits until the transmitter is empty, at most spin_limit polls of LSR, as u16550_flush of the
+ * driver does. The direction stays as it is.
  *
  * Errors
  *
- * U16550_STALLED, with done 0, after spin_limit unsuccessful polls in a row.
+ * U16550_STALLED after spin_limit unsuccessful polls in a row.
  *
  * Proved: a wait for an empty transmitter.
  */
-static inline int
-uart_half_duplex_flush(struct u16550_core_half_duplex *half_duplex, size_t *stalled_at)
+static inline int uart_half_duplex_flush(struct u16550_core_half_duplex *half_duplex)
 {
-    return uart_flush(&half_duplex->uart, stalled_at);
+    return uart_flush(&half_duplex->uart);
 }
 
 /* Returns the driver. The direction stays as it is, so finish before. Makes no access. */
@@ -5326,8 +5276,7 @@ uart_half_duplex_into_inner(struct u16550_core_half_duplex half_duplex)
 }
 
 /*
- * Returns whether the transmitter is empty, as u16550_bus_is_idle of the driver does: reads LSR
- * once.
+ * Returns whether the transmitter is empty, as u16550_is_idle of the driver does: reads LSR once.
  *
  * Does not wait. The error bits that this clears are saved for the next u16550_bus_lsr.
  *
@@ -5346,7 +5295,7 @@ static inline bool uart_half_duplex_is_sending(const struct u16550_core_half_dup
 
 /*
  * Reads LSR, and returns it joined with the error bits that all calls before have cleared in the
- * chip, as u16550_bus_lsr of the driver does. Afterwards no error bits are saved.
+ * chip, as u16550_lsr of the driver does. Afterwards no error bits are saved.
  *
  * Proved: one read of LSR, which is returned joined with the saved bits, of which none are left.
  */
@@ -5400,8 +5349,8 @@ uart_direction_turned(struct u16550_core_direction direction, bool sends, uint8_
 static inline void uart_half_duplex_turn(struct u16550_core_half_duplex *half_duplex, bool sends)
 {
     uint8_t outputs = uart_mcr(&half_duplex->uart);
-    uint8_t direction_turned = uart_direction_turned(half_duplex->direction, sends, outputs);
-    uart_set_modem_control(&half_duplex->uart, direction_turned);
+    uint8_t turned = uart_direction_turned(half_duplex->direction, sends, outputs);
+    uart_set_modem_control(&half_duplex->uart, turned);
     half_duplex->is_sending = sends;
 }
 
@@ -5413,9 +5362,8 @@ static inline void uart_half_duplex_turn(struct u16550_core_half_duplex *half_du
  * Call it some time after u16550_bus_is_idle was true or u16550_bus_flush returned: some chips
  * show an empty transmitter while the last stop bit is still on the line.
  *
- * Errors
- *
- * false if the transmitter is not empty. Nothing was written, and the direction is as it was.
+ * Returns false if the transmitter is not empty. Nothing was written, and the direction is as it
+ * was.
  *
  * Proved: a look at LSR shows that the transmitter is empty, and the transceiver is switched to
  * receive; or it shows that it is not, and nothing else is done.
@@ -5437,8 +5385,8 @@ static inline bool uart_half_duplex_try_finish(struct u16550_core_half_duplex *h
  *
  * Errors
  *
- * U16550_BUS_BUSY if the transmitter is not empty. Nothing was written then, and the driver is
- * returned: u16550_bus_flush it, and try again.
+ * U16550_BUS_BUSY if the transmitter is not empty. Nothing was written then, and *driver is the
+ * driver.
  *
  * Proved: as u16550_bus_try_finish of a driver of whose direction nothing is known, so that it is
  * taken to be to send. If the transmitter is not empty, the driver is returned.
@@ -5457,8 +5405,8 @@ uart_half_duplex_new(struct u16550_core_driver uart, struct u16550_core_directio
 }
 
 /*
- * Receives bytes while some are available and there are free slots, as u16550_bus_receive_bytes of
- * the driver does. Returns how many, and leaves the slots beyond them unchanged.
+ * Receives bytes while some are available and there are free slots, as u16550_receive_bytes of the
+ * driver does. Returns how many, and leaves the slots beyond them unchanged.
  *
  * Does not wait, in either direction. If the receiver hears what this end sends, these bytes are
  * among those that are received.
@@ -5475,7 +5423,7 @@ uart_half_duplex_receive_bytes(struct u16550_core_half_duplex *half_duplex, uint
 
 /*
  * Receives bytes with their errors while some are available and there are free slots, as
- * u16550_bus_receive_with_errors of the driver does.
+ * u16550_receive_with_errors of the driver does.
  *
  * Does not wait. A byte that was received while two ends sent at once has mostly an error, and
  * while no end drives a bus without resistors that hold it there may be errors and breaks.
@@ -5492,16 +5440,14 @@ uart_half_duplex_receive_with_errors(struct u16550_core_half_duplex *half_duplex
 
 /*
  * Sends bytes from the front of the array if there is room, and returns how many, as
- * u16550_bus_send_bytes of the driver does: up to as many as the FIFO holds if it is on, else one.
+ * u16550_send_bytes of the driver does: up to as many as the FIFO holds if it is on, else one.
  *
  * Does not wait. Call it again with the rest of the array to send more.
  *
- * Errors
+ * Returns false if the direction is not to send. No access was made.
  *
- * false if the direction is not to send. No access was made.
- *
- * Proved: while the direction is to send, a u16550_bus_send_bytes of the driver; else nothing, and
- * the error.
+ * Proved: while the direction is to send, a u16550_send_bytes of the driver; else nothing, and the
+ * error.
  */
 static inline bool
 uart_half_duplex_send_bytes(struct u16550_core_half_duplex *half_duplex, const uint8_t *buffer,
@@ -5514,8 +5460,8 @@ uart_half_duplex_send_bytes(struct u16550_core_half_duplex *half_duplex, const u
 }
 
 /*
- * Sends all of the bytes, and waits for room before each burst, as u16550_bus_send_bytes_exact of
- * the driver does.
+ * Sends all of the bytes, and waits for room before each burst, as u16550_send_bytes_exact of the
+ * driver does.
  *
  * It returns when the last burst is in THR or the FIFO. u16550_bus_flush waits until all of it has
  * left the chip.
@@ -5523,21 +5469,19 @@ uart_half_duplex_send_bytes(struct u16550_core_half_duplex *half_duplex, const u
  * Errors
  *
  * - U16550_BUS_NOT_SENDING if the direction is not to send. No access was made.
- * - U16550_STALLED after spin_limit unsuccessful checks in a row. The first done bytes were
+ * - U16550_STALLED after spin_limit unsuccessful checks in a row. The first *stalled_at bytes were
  *   written to the chip.
  *
- * Proved: while the direction is to send, a u16550_bus_send_bytes_exact of the driver; else
- * nothing, and the error.
+ * Proved: while the direction is to send, a u16550_send_bytes_exact of the driver; else nothing,
+ * and the error.
  */
 static inline int
 uart_half_duplex_send_bytes_exact(struct u16550_core_half_duplex *half_duplex,
-    const uint8_t *bytes, size_t bytes_len, size_t *done)
+    const uint8_t *bytes, size_t bytes_len, size_t *stalled_at)
 {
     if (!half_duplex->is_sending)
         return U16550_BUS_NOT_SENDING;
-    if (uart_send_bytes_exact(&half_duplex->uart, bytes, bytes_len, done) != U16550_OK)
-        return U16550_STALLED;
-    return U16550_OK;
+    return uart_send_bytes_exact(&half_duplex->uart, bytes, bytes_len, stalled_at);
 }
 
 /*
@@ -5571,9 +5515,9 @@ uart_direction_receiving(struct u16550_core_direction direction, uint8_t outputs
 
 /*
  * Returns the baud rate with this number of bits per second: the case with a name if there is one,
- * else Custom.
+ * else U16550_CORE_BAUD_RATE_CUSTOM.
  *
- * Proved: the case has a name: it is not Custom.
+ * Proved: a rate that has a name is never U16550_CORE_BAUD_RATE_CUSTOM.
  */
 static struct u16550_core_baud_rate uart_baud_rate_from_bps(uint32_t value)
 {
@@ -5630,16 +5574,13 @@ static struct u16550_core_baud_rate uart_baud_rate_from_bps(uint32_t value)
 }
 
 #ifndef U16550_OMIT_TIMES
-/*
- * Returns the factor if it is a factor. It is taken apart and put together again, so that the
- * compiler sees that the test of the called function holds.
- */
+/* Returns the factor if it is at most 15, or if there is none. */
 static bool
 uart_valid_prescaler(struct u16550_core_maybe_u32 prescaler_division_factor,
     struct u16550_core_maybe_u32 *prescaler)
 {
     if (prescaler_division_factor.is_some) {
-        if (prescaler_division_factor.value > 15)
+        if (prescaler_division_factor.value > UART_MAX_PRESCALER)
             return false;
         prescaler->is_some = true;
         prescaler->value = prescaler_division_factor.value;
@@ -5664,10 +5605,10 @@ static int
 uart_computable_prescaler(uint32_t frequency, uint32_t baud_rate,
     struct u16550_core_maybe_u32 prescaler_division_factor, struct u16550_core_maybe_u32 *prescaler)
 {
-    struct u16550_core_maybe_u32 found_prescaler;
-    if (uart_valid_prescaler(prescaler_division_factor, &found_prescaler)) {
+    struct u16550_core_maybe_u32 valid;
+    if (uart_valid_prescaler(prescaler_division_factor, &valid)) {
         if (baud_rate != 0 && frequency != 0) {
-            *prescaler = found_prescaler;
+            *prescaler = valid;
             return U16550_OK;
         }
         if (baud_rate != 0)
@@ -5684,7 +5625,7 @@ uart_computable_prescaler(uint32_t frequency, uint32_t baud_rate,
  *
  * Those of uart_calc_divisor. A baud rate of 0 or a larger factor gives
  * U16550_FRAME_NON_INTEGER_DIVISOR, and otherwise a frequency of 0 gives
- * U16550_FRAME_DIVISOR_OUT_OF_RANGE with the divisor 0.
+ * U16550_FRAME_DIVISOR_OUT_OF_RANGE.
  *
  * Proved: the answer of the arithmetic if it accepts these, and otherwise why it does not.
  */
@@ -5793,7 +5734,7 @@ uart_multiply_divide(uint64_t value, uint32_t times, uint32_t per, uint32_t more
     if (times == 0) {
         whole.is_some = true;
         whole.value = 0;
-    } else if (quotient <= uart_quotient_64((uint64_t)-1, times)) {
+    } else if (quotient <= uart_quotient_64(UART_MOST_64, times)) {
         whole.is_some = true;
         whole.value = uart_product_64(quotient, times);
     } else {
@@ -5804,7 +5745,7 @@ uart_multiply_divide(uint64_t value, uint32_t times, uint32_t per, uint32_t more
         return false;
     uint64_t part =
         uart_quotient_64(uart_product_64(uart_rest_64(value, per), times) + (uint64_t)more, per);
-    if ((uint64_t)-1 - part < whole.value)
+    if (UART_MOST_64 - part < whole.value)
         return false;
     *result = whole.value + part;
     return true;
@@ -5814,27 +5755,29 @@ uart_multiply_divide(uint64_t value, uint32_t times, uint32_t per, uint32_t more
  * Returns the fewest clocks that cover so many nanoseconds: rounded up, as the most that an access
  * takes, or a handler is late. None if they do not fit.
  *
- * Proved: value * times / per, rounded up, if that fits into 64 bits.
+ * Proved: the exact quotient, rounded up; or none, if that does not fit into 64 bits, or is by 0.
  */
 static inline bool
 uart_config_clocks_covering(const struct u16550_core_config *config, uint64_t nanoseconds,
     uint64_t *clocks)
 {
-    return uart_multiply_divide(nanoseconds, config->frequency, UINT32_C(1000000000),
-        UINT32_C(1000000000) - 1, clocks);
+    return uart_multiply_divide(nanoseconds, config->frequency, UART_NANOSECONDS_PER_SECOND,
+        UART_NANOSECONDS_PER_SECOND - 1, clocks);
 }
 
 /*
  * Returns the whole clocks within so many nanoseconds: rounded down, as the least that a look
  * takes. None if they do not fit.
  *
- * Proved: the whole part of value * times / per, if there is one that fits into 64 bits.
+ * Proved: the exact quotient, rounded down; or none, if that does not fit into 64 bits, or is by
+ * 0.
  */
 static inline bool
 uart_config_clocks_within(const struct u16550_core_config *config, uint64_t nanoseconds,
     uint64_t *clocks)
 {
-    return uart_multiply_divide(nanoseconds, config->frequency, UINT32_C(1000000000), 0, clocks);
+    return uart_multiply_divide(nanoseconds, config->frequency, UART_NANOSECONDS_PER_SECOND, 0,
+        clocks);
 }
 
 /*
@@ -5853,11 +5796,11 @@ static int
 uart_config_drain_clocks(const struct u16550_core_config *config, uint8_t size, uint64_t *clocks)
 {
     uint64_t characters = (uint64_t)uart_fifo_depth(size) + 1;
-    uint64_t found_clocks;
-    int status = uart_config_character_clocks(config, &found_clocks);
+    uint64_t character;
+    int status = uart_config_character_clocks(config, &character);
     if (status != U16550_OK)
         return status;
-    *clocks = uart_product_64(characters, found_clocks);
+    *clocks = uart_product_64(characters, character);
     return U16550_OK;
 }
 
@@ -5870,50 +5813,35 @@ uart_config_drain_clocks(const struct u16550_core_config *config, uint8_t size, 
  */
 static size_t uart_rx_trigger_bytes(uint8_t fifo_trigger_level, uint8_t size)
 {
-    struct uart_u64_4 levels;
+    const uint8_t *levels;
     switch (size) {
     case U16550_CORE_FIFO_SIZE_SIXTEEN:
-        levels.bytes[0] = 1;
-        levels.bytes[1] = 4;
-        levels.bytes[2] = 8;
-        levels.bytes[3] = 14;
+        levels = uart_levels_of_16;
         break;
     case U16550_CORE_FIFO_SIZE_THIRTY_TWO:
-        levels.bytes[0] = 8;
-        levels.bytes[1] = 16;
-        levels.bytes[2] = 24;
-        levels.bytes[3] = 28;
+        levels = uart_levels_of_32;
         break;
     case U16550_CORE_FIFO_SIZE_SIXTY_FOUR:
-        levels.bytes[0] = 1;
-        levels.bytes[1] = 16;
-        levels.bytes[2] = 32;
-        levels.bytes[3] = 56;
+        levels = uart_levels_of_64;
         break;
     case U16550_CORE_FIFO_SIZE_ONE_HUNDRED_TWENTY_EIGHT:
-        levels.bytes[0] = 16;
-        levels.bytes[1] = 32;
-        levels.bytes[2] = 112;
-        levels.bytes[3] = 120;
+        levels = uart_levels_of_128;
         break;
     case U16550_CORE_FIFO_SIZE_TWO_HUNDRED_FIFTY_SIX:
     default:
-        levels.bytes[0] = 1;
-        levels.bytes[1] = 64;
-        levels.bytes[2] = 128;
-        levels.bytes[3] = 254;
+        levels = uart_levels_of_256;
         break;
     }
     switch (fifo_trigger_level) {
     case U16550_CORE_FIFO_TRIGGER_LEVEL_ONE:
-        return (size_t)levels.bytes[0];
+        return levels[0];
     case U16550_CORE_FIFO_TRIGGER_LEVEL_FOUR:
-        return (size_t)levels.bytes[1];
+        return levels[1];
     case U16550_CORE_FIFO_TRIGGER_LEVEL_EIGHT:
-        return (size_t)levels.bytes[2];
+        return levels[2];
     case U16550_CORE_FIFO_TRIGGER_LEVEL_FOURTEEN:
     default:
-        return (size_t)levels.bytes[3];
+        return levels[3];
     }
 }
 
@@ -5944,27 +5872,27 @@ static inline uint32_t uart_rx_spare(const struct u16550_core_config *config, ui
  *
  * Those of uart_checked_divisor, if there is no divisor for the baud rate.
  *
- * Proved: how late it may begin where an access takes e clocks, and the others at its line are
- * served first: an access reads ISR, and the first byte is read four accesses later if a line
- * error is told before it. It is in time if something is left, and no character comes while
- * another one is read, by two accesses.
+ * Proved: how late the handler may begin where an access takes access_clocks, and the others at
+ * its line are served first: an access reads ISR, and the first byte is read four accesses later
+ * if a line error is told before it. It is in time if something is left, and no character comes
+ * while another one is read, by two accesses.
  */
 static int
 uart_config_handler_budget(const struct u16550_core_config *config, uint8_t size,
     uint64_t access_clocks, uint64_t before_clocks, struct uart_maybe_u64 *clocks)
 {
-    uint64_t found_clocks;
-    int status = uart_config_character_clocks(config, &found_clocks);
+    uint64_t character;
+    int status = uart_config_character_clocks(config, &character);
     if (status != U16550_OK)
         return status;
-    if (found_clocks / 2 < access_clocks) {
+    if (character / 2 < access_clocks) {
         clocks->is_some = false;
         return U16550_OK;
     }
-    uint64_t most = uart_product_64((uint64_t)uart_rx_spare(config, size) + 1, found_clocks) - 1;
+    uint64_t most = uart_product_64((uint64_t)uart_rx_spare(config, size) + 1, character) - 1;
     uint64_t first_byte = 4 * access_clocks;
-    uint64_t served = before_clocks <= (uint64_t)-1 - first_byte ? before_clocks + first_byte
-        : (uint64_t)-1;
+    uint64_t served = before_clocks <= UART_MOST_64 - first_byte ? before_clocks + first_byte
+        : UART_MOST_64;
     if (most < served) {
         clocks->is_some = false;
     } else {
@@ -5978,14 +5906,14 @@ uart_config_handler_budget(const struct u16550_core_config *config, uint8_t size
  * Returns the fewest whole nanoseconds that cover so many clocks: rounded up, as a time to wait.
  * None if they do not fit, or the frequency is 0.
  *
- * Proved: value * times / per, rounded up, if that fits into 64 bits.
+ * Proved: the exact quotient, rounded up; or none, if that does not fit into 64 bits, or is by 0.
  */
 static inline bool
 uart_config_nanoseconds_covering(const struct u16550_core_config *config, uint64_t clocks,
     uint64_t *nanoseconds)
 {
     uint32_t frequency = config->frequency;
-    return uart_multiply_divide(clocks, UINT32_C(1000000000), config->frequency,
+    return uart_multiply_divide(clocks, UART_NANOSECONDS_PER_SECOND, config->frequency,
         frequency >= 1 ? frequency - 1 : 0, nanoseconds);
 }
 
@@ -5993,13 +5921,15 @@ uart_config_nanoseconds_covering(const struct u16550_core_config *config, uint64
  * Returns the whole nanoseconds within so many clocks: rounded down, as a time that may be used
  * up. None if they do not fit, or the frequency is 0.
  *
- * Proved: the whole part of value * times / per, if there is one that fits into 64 bits.
+ * Proved: the exact quotient, rounded down; or none, if that does not fit into 64 bits, or is by
+ * 0.
  */
 static inline bool
 uart_config_nanoseconds_within(const struct u16550_core_config *config, uint64_t clocks,
     uint64_t *nanoseconds)
 {
-    return uart_multiply_divide(clocks, UINT32_C(1000000000), config->frequency, 0, nanoseconds);
+    return uart_multiply_divide(clocks, UART_NANOSECONDS_PER_SECOND, config->frequency, 0,
+        nanoseconds);
 }
 
 /* Returns how many clock ticks a bit has at divisor 1. */
@@ -6007,7 +5937,7 @@ static inline uint64_t
 uart_ticks_of(uint32_t baud_rate, struct u16550_core_maybe_u32 prescaler_division_factor)
 {
     uint32_t prescaler = prescaler_division_factor.is_some ? prescaler_division_factor.value : 0;
-    return uart_product_64(16 * ((uint64_t)prescaler + 1), baud_rate);
+    return uart_product_64(UART_SAMPLES_PER_BIT * ((uint64_t)prescaler + 1), baud_rate);
 }
 
 /*
@@ -6043,14 +5973,14 @@ static inline uint64_t uart_nearest_factor(uint64_t frequency, uint64_t ticks)
  *
  * Errors
  *
- * - U16550_NEAREST_OUT_OF_RANGE, with the nearest divisor, if it is above 65,535, or its frequency
- *   needs more than 32 bits.
- * - U16550_NEAREST_TOO_FAR, with the nearest divisor, if it is in range, and the rate differs by
- *   more. Then the rate of each divisor does.
+ * - U16550_NEAREST_OUT_OF_RANGE if it is above 65,535, or its frequency needs more than 32 bits.
+ * - U16550_NEAREST_TOO_FAR if it is in range, and the rate differs by more. Then the rate of each
+ *   divisor does.
  *
  * Proved: the configuration with the frequency at which the nearest divisor is exact, so that it
- * is the one that the exact arithmetic computes, and the rate is near enough; or the nearest
- * divisor, which does not fit, or fits and is too far off, as each other divisor then is.
+ * is the one that the exact arithmetic computes, and the rate is near enough; or the error that
+ * says that the nearest divisor does not fit, or fits and is too far off, as each other divisor
+ * then is.
  */
 static int
 uart_config_nearest(struct u16550_core_config config, uint32_t per_mille,
@@ -6061,7 +5991,7 @@ uart_config_nearest(struct u16550_core_config config, uint32_t per_mille,
         uart_ticks_of(uart_baud_rate_bps(config.baud_rate), config.prescaler_division_factor);
     uint64_t divisor = uart_nearest_factor(frequency, ticks);
     uint64_t exact = uart_product_64(ticks, divisor);
-    if ((divisor > UINT32_C(65535)) || (exact > UINT32_C(4294967295)))
+    if ((divisor > UINT16_MAX) || (exact > UART_MOST_32))
         return U16550_NEAREST_OUT_OF_RANGE;
     if (uart_product_64(per_mille, exact) < uart_product_64(1000,
         exact < frequency ? frequency - exact : exact - frequency)) {
@@ -6085,8 +6015,8 @@ uart_config_nearest(struct u16550_core_config config, uint32_t per_mille,
  * Those of uart_checked_divisor, if there is no divisor for the baud rate.
  *
  * Proved: The limit with which no wait for a full transmitter gives up, of a FIFO and the shift
- * register, if each look takes at least e clocks. A character is so many looks, of which the last
- * may begin before it ends; and one look more finds that the next character has begun.
+ * register, if each look takes at least access_clocks. A character is so many looks, of which the
+ * last may begin before it ends; and one look more finds that the next character has begun.
  */
 static int
 uart_config_spin_limit_for(const struct u16550_core_config *config, uint8_t size,
@@ -6103,7 +6033,7 @@ uart_config_spin_limit_for(const struct u16550_core_config *config, uint8_t size
     limit->is_some = true;
     limit->value =
         uart_product_64((uint64_t)uart_fifo_depth(size) + 1,
-        uart_quotient_64(clocks - 1, access_clocks) + 1 + 1);
+        uart_quotient_64(clocks - 1, access_clocks) + 2);
     return U16550_OK;
 }
 
@@ -6120,11 +6050,11 @@ uart_config_spin_limit_for(const struct u16550_core_config *config, uint8_t size
 static inline int
 uart_config_timeout_clocks(const struct u16550_core_config *config, uint64_t *clocks)
 {
-    uint64_t found_clocks;
-    int status = uart_config_character_clocks(config, &found_clocks);
+    uint64_t character;
+    int status = uart_config_character_clocks(config, &character);
     if (status != U16550_OK)
         return status;
-    *clocks = 4 * found_clocks;
+    *clocks = 4 * character;
     return U16550_OK;
 }
 #endif
@@ -6150,7 +6080,7 @@ uart_calc_baud_rate(uint32_t frequency, uint32_t divisor,
 
 /*
  * Returns the baud rate that the divisor gives at the configuration's frequency and prescaler
- * division factor: the case with a name if there is one, else Custom.
+ * division factor: the case with a name if there is one, else U16550_CORE_BAUD_RATE_CUSTOM.
  *
  * The configuration's own baud rate does not matter. Its frequency must not be 0, and its
  * prescaler division factor must be none or at most 15.
@@ -6171,12 +6101,10 @@ uart_config_register_dump_baud_rate(const struct u16550_dump *config_register_du
     uint32_t divisor = uart_config_register_dump_divisor(config_register_dump);
     if (divisor == 0)
         return U16550_NON_INTEGER_BAUD_RATE;
-    uint32_t found_baud_rate;
-    if (uart_calc_baud_rate(frequency, divisor, prescaler_division_factor,
-        &found_baud_rate) != U16550_OK) {
+    uint32_t exact;
+    if (uart_calc_baud_rate(frequency, divisor, prescaler_division_factor, &exact) != U16550_OK)
         return U16550_NON_INTEGER_BAUD_RATE;
-    }
-    *baud_rate = uart_baud_rate_from_bps(found_baud_rate);
+    *baud_rate = uart_baud_rate_from_bps(exact);
     return U16550_OK;
 }
 
@@ -6490,7 +6418,7 @@ static int uart_decode_level(uint8_t from, struct u16550_core_maybe_fifo_trigger
 }
 
 /* Reads a configuration, of which perhaps no divisor can be computed. */
-static int uart_decode_config(const struct u16550_config *from, struct u16550_core_config *to)
+static UART_NO_TABLE int uart_decode_config(const struct u16550_config *from, struct u16550_core_config *to)
 {
     int status = uart_check_flag(from->has_prescaler);
     to->data_bits = U16550_CORE_WORD_LENGTH_EIGHT_BITS;
@@ -6868,7 +6796,8 @@ int u16550_dump_baud_rate(const struct u16550_dump *dump, const struct u16550_co
         status = uart_decode_config(config, &decoded);
     if (status != U16550_OK)
         return status;
-    if (decoded.frequency == 0 || (decoded.prescaler_division_factor.is_some && decoded.prescaler_division_factor.value > 15))
+    if (decoded.frequency == 0 ||
+        (decoded.prescaler_division_factor.is_some && decoded.prescaler_division_factor.value > UART_MAX_PRESCALER))
         return U16550_NOT_COMPUTABLE;
     status = uart_config_register_dump_baud_rate(dump, &decoded, &rate);
     if (status == U16550_OK)
@@ -7483,11 +7412,10 @@ int u16550_bus_try_finish(struct u16550_bus *bus)
 
 int u16550_bus_flush(struct u16550_bus *bus)
 {
-    size_t done;
     int status = uart_enter_bus(bus);
     if (status != U16550_OK)
         return status;
-    return uart_leave_bus(bus, uart_half_duplex_flush(&bus->bus, &done));
+    return uart_leave_bus(bus, uart_half_duplex_flush(&bus->bus));
 }
 
 int u16550_bus_is_idle(struct u16550_bus *bus, uint8_t *idle)
@@ -8303,21 +8231,19 @@ int u16550_send_bytes_while(struct u16550 *uart, const uint8_t *buffer, size_t l
 int u16550_flush_while(struct u16550 *uart, uint8_t (*keep_waiting)(void *context), void *context)
 {
     struct uart_patience patience = { keep_waiting, context };
-    size_t stalled_at;
     int status = uart_enter(uart);
     if (status != U16550_OK)
         return status;
     status = uart_if(keep_waiting == NULL, U16550_NULL_POINTER);
     if (status != U16550_OK)
         return uart_leave(uart, status);
-    status = uart_flush_while(&uart->ring.uart, &patience, &stalled_at);
+    status = uart_flush_while(&uart->ring.uart, &patience);
     return uart_leave(uart, status);
 }
 
 int u16550_read(struct u16550 *uart, uint8_t *buffer, size_t len, size_t *count)
 {
     size_t found_count;
-    size_t stalled_at;
     int status = UART_USABLE(count, size);
     if (status == U16550_OK)
         status = uart_enter(uart);
@@ -8326,7 +8252,7 @@ int u16550_read(struct u16550 *uart, uint8_t *buffer, size_t len, size_t *count)
     status = uart_array(buffer, len, 1, 1);
     if (status != U16550_OK)
         return uart_leave(uart, status);
-    status = uart_read(&uart->ring.uart, buffer, len, &found_count, &stalled_at);
+    status = uart_read(&uart->ring.uart, buffer, len, &found_count);
     status = uart_leave(uart, status);
     if (status == U16550_OK)
         *count = found_count;
@@ -8336,7 +8262,6 @@ int u16550_read(struct u16550 *uart, uint8_t *buffer, size_t len, size_t *count)
 int u16550_write(struct u16550 *uart, const uint8_t *buffer, size_t len, size_t *count)
 {
     size_t found_count;
-    size_t stalled_at;
     int status = UART_USABLE(count, size);
     if (status == U16550_OK)
         status = uart_enter(uart);
@@ -8345,7 +8270,7 @@ int u16550_write(struct u16550 *uart, const uint8_t *buffer, size_t len, size_t 
     status = uart_array(buffer, len, 1, 1);
     if (status != U16550_OK)
         return uart_leave(uart, status);
-    status = uart_write(&uart->ring.uart, buffer, len, &found_count, &stalled_at);
+    status = uart_write(&uart->ring.uart, buffer, len, &found_count);
     status = uart_leave(uart, status);
     if (status == U16550_OK)
         *count = found_count;
@@ -8354,24 +8279,22 @@ int u16550_write(struct u16550 *uart, const uint8_t *buffer, size_t len, size_t 
 
 int u16550_flush(struct u16550 *uart)
 {
-    size_t stalled_at;
     int status = uart_enter(uart);
     if (status != U16550_OK)
         return status;
-    status = uart_flush(&uart->ring.uart, &stalled_at);
+    status = uart_flush(&uart->ring.uart);
     return uart_leave(uart, status);
 }
 
 int u16550_read_ready(struct u16550 *uart, uint8_t *ready)
 {
     bool found_ready;
-    size_t stalled_at;
     int status = uart_if(ready == NULL, U16550_NULL_POINTER);
     if (status == U16550_OK)
         status = uart_enter(uart);
     if (status != U16550_OK)
         return status;
-    status = uart_read_ready(&uart->ring.uart, &found_ready, &stalled_at);
+    status = uart_read_ready(&uart->ring.uart, &found_ready);
     status = uart_leave(uart, status);
     if (status == U16550_OK)
         *ready = found_ready;
@@ -8381,13 +8304,12 @@ int u16550_read_ready(struct u16550 *uart, uint8_t *ready)
 int u16550_write_ready(struct u16550 *uart, uint8_t *ready)
 {
     bool found_ready;
-    size_t stalled_at;
     int status = uart_if(ready == NULL, U16550_NULL_POINTER);
     if (status == U16550_OK)
         status = uart_enter(uart);
     if (status != U16550_OK)
         return status;
-    status = uart_write_ready(&uart->ring.uart, &found_ready, &stalled_at);
+    status = uart_write_ready(&uart->ring.uart, &found_ready);
     status = uart_leave(uart, status);
     if (status == U16550_OK)
         *ready = found_ready;

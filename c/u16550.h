@@ -421,8 +421,9 @@ enum u16550_core_baud_rate_kind {
  * A baud rate, in bits per second.
  *
  * Baud rates are ordered by their number. If two have the same number, the one with a name comes
- * before Custom. So Baud9600 and Custom(9600) are different values; uart_baud_rate_from_bps
- * returns the one with a name.
+ * before U16550_CORE_BAUD_RATE_CUSTOM. So U16550_CORE_BAUD_RATE_BAUD9600 and
+ * U16550_CORE_BAUD_RATE_CUSTOM with 9600 are different values; uart_baud_rate_from_bps returns the
+ * one with a name.
  */
 struct u16550_core_baud_rate {
     uint8_t kind; /* an enum u16550_core_baud_rate_kind */
@@ -815,8 +816,9 @@ int u16550_default_config(struct u16550_config *config);
  */
 /*
  * Proved: the configuration with the frequency at which the nearest divisor is exact, so that it
- * is the one that the exact arithmetic computes, and the rate is near enough; or the nearest
- * divisor, which does not fit, or fits and is too far off, as each other divisor then is.
+ * is the one that the exact arithmetic computes, and the rate is near enough; or the error that
+ * says that the nearest divisor does not fit, or fits and is too far off, as each other divisor
+ * then is.
  */
 int u16550_nearest(const struct u16550_config *config, uint32_t per_mille, struct u16550_config *nearest);
 #endif
@@ -864,10 +866,10 @@ int u16550_character_clocks(const struct u16550_config *config, uint64_t *clocks
  * two accesses of a byte take longer than a character.
  */
 /*
- * Proved: how late it may begin where an access takes e clocks, and the others at its line are
- * served first: an access reads ISR, and the first byte is read four accesses later if a line
- * error is told before it. It is in time if something is left, and no character comes while
- * another one is read, by two accesses.
+ * Proved: how late the handler may begin where an access takes access_clocks, and the others at
+ * its line are served first: an access reads ISR, and the first byte is read four accesses later
+ * if a line error is told before it. It is in time if something is left, and no character comes
+ * while another one is read, by two accesses.
  */
 int u16550_handler_budget(const struct u16550_config *config, uint16_t fifo_size, uint64_t access_clocks,
                           uint64_t before_clocks, uint64_t *clocks);
@@ -900,8 +902,8 @@ int u16550_timeout_clocks(const struct u16550_config *config, uint64_t *clocks);
  */
 /*
  * Proved: The limit with which no wait for a full transmitter gives up, of a FIFO and the shift
- * register, if each look takes at least e clocks. A character is so many looks, of which the last
- * may begin before it ends; and one look more finds that the next character has begun.
+ * register, if each look takes at least access_clocks. A character is so many looks, of which the
+ * last may begin before it ends; and one look more finds that the next character has begun.
  */
 int u16550_spin_limit_for(const struct u16550_config *config, uint16_t fifo_size, uint64_t access_clocks, uint64_t *limit);
 
@@ -910,13 +912,19 @@ int u16550_spin_limit_for(const struct u16550_config *config, uint16_t fifo_size
  * with 'covering' round up: for a time to wait, and for the most that an access takes. They return U16550_TIME_OUT_OF_RANGE if the result does
  * not fit into 64 bits.
  */
-/* Proved: the whole part of value * times / per, if there is one that fits into 64 bits. */
+/*
+ * Proved: the exact quotient, rounded down; or none, if that does not fit into 64 bits, or is by
+ * 0.
+ */
 int u16550_nanoseconds_within(const struct u16550_config *config, uint64_t clocks, uint64_t *nanoseconds);
-/* Proved: value * times / per, rounded up, if that fits into 64 bits. */
+/* Proved: the exact quotient, rounded up; or none, if that does not fit into 64 bits, or is by 0. */
 int u16550_nanoseconds_covering(const struct u16550_config *config, uint64_t clocks, uint64_t *nanoseconds);
-/* Proved: the whole part of value * times / per, if there is one that fits into 64 bits. */
+/*
+ * Proved: the exact quotient, rounded down; or none, if that does not fit into 64 bits, or is by
+ * 0.
+ */
 int u16550_clocks_within(const struct u16550_config *config, uint64_t nanoseconds, uint64_t *clocks);
-/* Proved: value * times / per, rounded up, if that fits into 64 bits. */
+/* Proved: the exact quotient, rounded up; or none, if that does not fit into 64 bits, or is by 0. */
 int u16550_clocks_covering(const struct u16550_config *config, uint64_t nanoseconds, uint64_t *clocks);
 #endif
 
@@ -1110,7 +1118,7 @@ int u16550_set_break(struct u16550 *uart, uint8_t on);
 /* --------------------------------------------------------------- sending and receiving */
 
 /* These two and the next two do not wait. They return U16550_RECEIVE_NO_DATA or an enum u16550_send_error. */
-/* Proved: one read of LSR, which shows a received byte exactly if the result is true. */
+/* Proved: one read of LSR, which shows a received byte exactly if the result is U16550_OK. */
 int u16550_ready_to_receive(struct u16550 *uart);
 /*
  * Proved: one send check: LSR shows THR_EMPTY and, if CTS is checked, the modem lines allow
@@ -1186,12 +1194,12 @@ int u16550_receive_with_errors(struct u16550 *uart, struct u16550_received *rece
  */
 /*
  * Proved: the slots are filled, each after its own wait; or those before the one whose wait
- * reaches the limit, as many as the error reports.
+ * reaches the limit, as many as *done says.
  */
 int u16550_receive_bytes_exact(struct u16550 *uart, uint8_t *buffer, size_t len, size_t *done);
 /*
  * Proved: all bytes, burst by burst, each burst after its own wait; or those before the burst
- * whose wait reaches the limit, as many as the error reports.
+ * whose wait reaches the limit, as many as *done says.
  */
 int u16550_send_bytes_exact(struct u16550 *uart, const uint8_t *buffer, size_t len, size_t *done);
 
@@ -1202,13 +1210,13 @@ int u16550_send_bytes_exact(struct u16550 *uart, const uint8_t *buffer, size_t l
  */
 /*
  * Proved: with the answers of the caller: the slots are filled, each byte after its own wait; or
- * those before the one whose wait ended in vain, as many as the error reports.
+ * those before the one whose wait ended in vain, as many as *done says.
  */
 int u16550_receive_bytes_while(struct u16550 *uart, uint8_t *buffer, size_t len, uint8_t (*keep_waiting)(void *context),
                                void *context, size_t *done);
 /*
  * Proved: with the answers of the caller: all bytes, burst by burst, each burst after its own
- * wait; or those before the burst whose wait ended in vain, as many as the error reports.
+ * wait; or those before the burst whose wait ended in vain, as many as *done says.
  */
 int u16550_send_bytes_while(struct u16550 *uart, const uint8_t *buffer, size_t len, uint8_t (*keep_waiting)(void *context),
                             void *context, size_t *done);
@@ -1238,7 +1246,7 @@ int u16550_is_idle(struct u16550 *uart, uint8_t *idle);
  */
 /*
  * Proved: one read of MCR, which shows all bits set, as a bus does that nobody drives, exactly if
- * the result is true.
+ * the result is U16550_OK.
  */
 int u16550_is_gone(struct u16550 *uart, uint8_t *gone);
 
@@ -1380,7 +1388,6 @@ int u16550_bus_lsr(struct u16550_bus *bus, uint8_t *value);
  * the rings' until u16550_ring_end or u16550_end, or until another driver is made in the place of this one. Refused by an
  * enum u16550_ring_error.
  */
-/* Proved: how many bytes a ring can be made for: 1 to 4096. */
 int u16550_ring_new(struct u16550 *uart, uint8_t *memory, size_t size, size_t tx_capacity, size_t rx_capacity);
 
 /* Ends the rings, with the bytes in them. The driver stays. */

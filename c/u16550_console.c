@@ -24,6 +24,7 @@ enum {
     U16550_FCR_FIFO_ENABLE = 0x01,
     U16550_FCR_RX_FIFO_RESET = 0x02,
     U16550_FCR_RX_FIFO_TRIGGER_LEVEL = 0xc0,
+    U16550_FCR_TRIGGER_14 = 0xc0,
     U16550_FCR_TX_FIFO_RESET = 0x04,
     U16550_ISR_FIFOS_ENABLED = 0xc0,
     U16550_LCR_DLAB = 0x80,
@@ -188,24 +189,6 @@ static inline void uart_device_write(uint8_t offset, uint8_t value)
     U16550_CONSOLE_WRITE(offset, value);
 }
 
-/*
- * The number of characters in the receiver FIFO at which a DATA_READY interrupt is raised.
- *
- * A high level needs fewer interrupts. A low level leaves more time to read before the FIFO
- * overruns.
- */
-enum u16550_core_fifo_trigger_level {
-    U16550_CORE_FIFO_TRIGGER_LEVEL_ONE = 0,
-    U16550_CORE_FIFO_TRIGGER_LEVEL_FOUR = 1,
-    U16550_CORE_FIFO_TRIGGER_LEVEL_EIGHT = 2,
-    U16550_CORE_FIFO_TRIGGER_LEVEL_FOURTEEN = 3
-};
-
-struct u16550_core_maybe_fifo_trigger_level {
-    uint8_t is_some;
-    uint8_t value; /* an enum u16550_core_fifo_trigger_level */
-};
-
 struct uart_latch {
     uint8_t dll;
     uint8_t dlm;
@@ -303,51 +286,34 @@ static void uart_set_line(uint16_t divisor, uint8_t frame)
     uart_device_write(UART_LCR, 0);
     uart_device_write(UART_IER, 0);
     uart_device_write(UART_LCR, U16550_LCR_DLAB);
-    uart_device_write(UART_DLL, (uint8_t)(divisor & 0xff));
+    uart_device_write(UART_DLL, (uint8_t)divisor);
     uart_device_write(UART_DLM, (uint8_t)(divisor >> 8));
     uart_device_write(UART_LCR, 0);
     uart_device_write(UART_LCR, frame);
 }
 
 /*
- * Returns the code of this trigger level, in the low two bits.
+ * Returns the register with this trigger level. No other bit changes.
  *
- * Proved: the field is the code of this trigger level.
+ * The level is fourteen in each call, and so it is left out.
+ *
+ * Proved: these bits are the code of this trigger level.
+ * Proved: no other bit changes.
  */
-static uint8_t uart_fifo_trigger_level_code(uint8_t fifo_trigger_level)
+static inline uint8_t uart_fcr_with_trigger_level(uint8_t fcr)
 {
-    switch (fifo_trigger_level) {
-    case U16550_CORE_FIFO_TRIGGER_LEVEL_ONE:
-        return 0x00;
-    case U16550_CORE_FIFO_TRIGGER_LEVEL_FOUR:
-        return 0x01;
-    case U16550_CORE_FIFO_TRIGGER_LEVEL_EIGHT:
-        return 0x02;
-    case U16550_CORE_FIFO_TRIGGER_LEVEL_FOURTEEN:
-    default:
-        return 0x03;
-    }
+    return (fcr & (uint8_t)~U16550_FCR_RX_FIFO_TRIGGER_LEVEL) | U16550_FCR_TRIGGER_14;
 }
 
 /*
- * Returns the register with this trigger level. No other bit changes.
+ * Returns FCR for a trigger level.
  *
- * Proved: the field is the code of this trigger level.
- * Proved: no other bit changes.
+ * The level is fourteen in each call, and so it is left out.
  */
-static inline uint8_t uart_fcr_set_fifo_trigger_level(uint8_t fcr, uint8_t level)
+static inline uint8_t uart_fcr_of_level(void)
 {
-    return (fcr & (uint8_t)~U16550_FCR_RX_FIFO_TRIGGER_LEVEL) |
-        (uint8_t)(uart_fifo_trigger_level_code(level) << 6);
-}
-
-/* Returns FCR for a trigger level. */
-static inline uint8_t uart_fcr_of_level(struct u16550_core_maybe_fifo_trigger_level level)
-{
-    uint8_t resets = U16550_FCR_RX_FIFO_RESET | U16550_FCR_TX_FIFO_RESET;
-    if (level.is_some)
-        return uart_fcr_set_fifo_trigger_level(resets | U16550_FCR_FIFO_ENABLE, level.value);
-    return resets;
+    return uart_fcr_with_trigger_level(U16550_FCR_RX_FIFO_RESET | U16550_FCR_TX_FIFO_RESET |
+        U16550_FCR_FIFO_ENABLE);
 }
 
 /* Returns whether the FIFOs are on and work: bits 6 and 7 are both set then. */
@@ -359,13 +325,15 @@ static inline bool uart_isr_fifo_enabled(uint8_t isr)
 /*
  * Resets the FIFOs, enables them if there is a level, and returns whether they are on then.
  *
+ * The level is fourteen in each call, and so it is left out.
+ *
  * Proved: the FIFO step: FCR is written and, if a level is configured, ISR shows whether the FIFO
  * is on.
  */
-static inline bool uart_set_fifo(struct u16550_core_maybe_fifo_trigger_level level)
+static inline bool uart_set_fifo(void)
 {
-    uart_device_write(UART_FCR, uart_fcr_of_level(level));
-    return level.is_some && uart_isr_fifo_enabled(uart_device_read(UART_ISR));
+    uart_device_write(UART_FCR, uart_fcr_of_level());
+    return uart_isr_fifo_enabled(uart_device_read(UART_ISR));
 }
 
 /*
@@ -432,12 +400,10 @@ static inline void uart_finish_init(struct u16550_console *uart)
  */
 static int uart_set_up(struct u16550_console *uart, uint16_t divisor)
 {
-    struct u16550_core_maybe_fifo_trigger_level level =
-        { true, U16550_CORE_FIFO_TRIGGER_LEVEL_FOURTEEN };
     if (!uart_check_present())
         return U16550_CONSOLE_DEVICE_NOT_PRESENT;
     uart_set_line(divisor, U16550_LCR_8N1);
-    uart->fifo_enabled = uart_set_fifo(level);
+    uart->fifo_enabled = uart_set_fifo();
     uart_drain();
     uart_device_write(UART_MCR,
         U16550_MCR_DTR | U16550_MCR_RTS | U16550_MCR_OUT_2_INT_ENABLE);
@@ -496,11 +462,11 @@ static int uart_attach(struct u16550_console *uart, struct uart_latch *latch)
         return U16550_CONSOLE_DIVISOR_LATCH_OPEN;
     if ((uart_device_read(UART_MCR) & U16550_MCR_LOOP_BACK) != 0)
         return U16550_CONSOLE_LOOPBACK;
-    struct uart_latch found_latch = uart_dll_dlm();
-    if (found_latch.dll == 0 && found_latch.dlm == 0)
+    struct uart_latch shown = uart_dll_dlm();
+    if (shown.dll == 0 && shown.dlm == 0)
         return U16550_CONSOLE_NO_DIVISOR;
     uart->fifo_enabled = uart_isr_fifo_enabled(uart_device_read(UART_ISR));
-    *latch = found_latch;
+    *latch = shown;
     return U16550_CONSOLE_OK;
 }
 
@@ -508,17 +474,17 @@ static int uart_attach(struct u16550_console *uart, struct uart_latch *latch)
  * Reads the modem lines, and sets the device to loopback with interrupts off, and with FIFOs of
  * this level, if there is one.
  *
+ * The level is fourteen in each call, and so it is left out.
+ *
  * Proved: MSR is read, interrupts are switched off, loopback is switched on, and the FIFO step is
  * made with this level.
  */
-static inline uint8_t
-uart_enter_loopback(struct u16550_console *uart,
-    struct u16550_core_maybe_fifo_trigger_level level)
+static inline uint8_t uart_enter_loopback(struct u16550_console *uart)
 {
     uint8_t before = uart_device_read(UART_MSR);
     uart_device_write(UART_IER, 0);
     uart_device_write(UART_MCR, U16550_MCR_LOOP_BACK);
-    uart->fifo_enabled = uart_set_fifo(level);
+    uart->fifo_enabled = uart_set_fifo();
     return before;
 }
 
@@ -528,9 +494,7 @@ uart_enter_loopback(struct u16550_console *uart,
  * Does not wait: reads LSR once. The error bits that this clears are saved for the next
  * u16550_console_lsr.
  *
- * Errors
- *
- * false if no byte is available.
+ * Returns false if no byte is available.
  *
  * Proved: one read of LSR, which shows a received byte exactly if the result is true.
  */
@@ -545,9 +509,7 @@ static inline bool uart_ready_to_receive(struct u16550_console *uart)
  * Does not wait. The error bits that the read of LSR clears are saved for the next
  * u16550_console_lsr; they belong to the byte that is then received, except for an overrun.
  *
- * Errors
- *
- * false if no byte is available. RBR was not read then.
+ * Returns false if no byte is available. RBR was not read then.
  *
  * Proved: LSR shows a received byte, which is read from DATA and returned; or LSR shows none.
  */
@@ -599,8 +561,8 @@ static inline int uart_ready_to_send(struct u16550_console *uart)
 /* Writes the bytes to DATA in order. */
 static inline void uart_write_data(const uint8_t *bytes, size_t bytes_len)
 {
-    for (size_t byte = 0; byte < bytes_len; byte++)
-        uart_device_write(UART_DATA, bytes[byte]);
+    for (size_t i = 0; i < bytes_len; i++)
+        uart_device_write(UART_DATA, bytes[i]);
 }
 
 /* Writes bytes from the front to DATA, at most so many, and returns how many. */
@@ -710,9 +672,8 @@ static int uart_exchange_byte(struct u16550_console *uart)
 }
 
 /*
- * Waits until bytes may be written. The check stands once: where code is to be small, the compiler
- * then inlines it. Waiting and writing are two functions, and this one is inlined, so that each
- * loop that sends holds one copy of the wait.
+ * Waits until bytes may be written. It is apart from the write, so that each loop that sends has
+ * one copy of the wait, which a compiler inlines.
  *
  * Proved: a wait for room: a check succeeded after fewer misses in a row than the limit, or there
  * were as many misses.
@@ -729,8 +690,8 @@ static inline bool uart_wait_to_send(struct u16550_console *uart)
 /*
  * Waits until a burst was sent, and returns its length.
  *
- * Proved: a wait for one burst: k of the bytes were sent, or there were as many misses as the
- * limit.
+ * Proved: a wait for one burst: *count bytes from the front were sent, or there were as many
+ * misses as the limit.
  */
 static inline bool
 uart_send_some(struct u16550_console *uart, const uint8_t *bytes, size_t bytes_len,
@@ -752,10 +713,10 @@ uart_send_some(struct u16550_console *uart, const uint8_t *bytes, size_t bytes_l
  * Errors
  *
  * U16550_CONSOLE_STALLED after U16550_CONSOLE_POLLS unsuccessful checks in a row: the chip is
- * slower than the limit allows. The first done bytes were written to the chip.
+ * slower than the limit allows. The first *stalled_at bytes were written to the chip.
  *
  * Proved: all bytes, burst by burst, each burst after its own wait; or those before the burst
- * whose wait reaches the limit, as many as the error reports.
+ * whose wait reaches the limit, as many as *stalled_at says.
  */
 static int
 uart_send_bytes_exact(struct u16550_console *uart, const uint8_t *bytes, size_t bytes_len,
@@ -783,11 +744,11 @@ uart_send_bytes_exact(struct u16550_console *uart, const uint8_t *bytes, size_t 
  * Errors
  *
  * U16550_CONSOLE_STALLED after U16550_CONSOLE_POLLS unsuccessful polls in a row: the remote sent
- * nothing for so long. The first done slots have the bytes that were received, and the other slots
- * are unchanged.
+ * nothing for so long. The first *stalled_at slots have the bytes that were received, and the
+ * other slots are unchanged.
  *
  * Proved: the slots are filled, each after its own wait; or those before the one whose wait
- * reaches the limit, as many as the error reports.
+ * reaches the limit, as many as *stalled_at says.
  */
 static int
 uart_receive_bytes_exact(struct u16550_console *uart, uint8_t *buffer, size_t buffer_len,
@@ -825,10 +786,10 @@ static inline bool uart_echo_whole(struct u16550_console *uart, struct uart_byte
  *
  * Proved: what came back for a byte, or nothing if a wait was unsuccessful.
  */
-static inline bool uart_echo(struct u16550_console *uart, uint8_t byte, uint8_t *byte_of)
+static inline bool uart_echo(struct u16550_console *uart, uint8_t byte, uint8_t *echoed)
 {
     size_t count;
-    return uart_send_some(uart, &byte, 1, &count) && uart_receive_one(uart, byte_of);
+    return uart_send_some(uart, &byte, 1, &count) && uart_receive_one(uart, echoed);
 }
 
 /*
@@ -941,9 +902,7 @@ static int uart_test_loopback(struct u16550_console *uart)
     if (!uart_wait_for(uart, U16550_LSR_TRANSMITTER_EMPTY))
         return U16550_CONSOLE_LOOPBACK_STALLED;
     uint8_t noted = uart->saved_lsr;
-    struct u16550_core_maybe_fifo_trigger_level fifo_trigger_level =
-        { true, U16550_CORE_FIFO_TRIGGER_LEVEL_FOURTEEN };
-    uart_enter_loopback(uart, fifo_trigger_level);
+    uart_enter_loopback(uart);
     int outcome = uart_exchange(uart);
     uart_leave_loopback(uart, mcr, ier, noted);
     return outcome;
@@ -1063,19 +1022,18 @@ uart_tty_send_expansion(struct u16550_console *uart, uint8_t byte, size_t *count
  * Those of u16550_console_write_text.
  *
  * Proved: the expansion of the text, byte by byte, each after its own wait; or a beginning of it,
- * as long as the error reports, at most SIZE_MAX, and then a wait that reaches the limit.
+ * as long as *stalled_at says, at most SIZE_MAX, and then a wait that reaches the limit.
  */
 static int
 uart_tty_write_raw_text(struct u16550_console *uart, const uint8_t *text, size_t text_len,
     size_t *stalled_at)
 {
     size_t done = 0;
-    for (size_t byte = 0; byte < text_len; byte++) {
+    for (size_t i = 0; i < text_len; i++) {
         size_t count;
-        size_t found_stalled_at;
-        if (uart_tty_send_expansion(uart, text[byte], &count,
-            &found_stalled_at) != U16550_CONSOLE_OK) {
-            *stalled_at = done <= SIZE_MAX - found_stalled_at ? done + found_stalled_at : SIZE_MAX;
+        size_t sent;
+        if (uart_tty_send_expansion(uart, text[i], &count, &sent) != U16550_CONSOLE_OK) {
+            *stalled_at = done <= SIZE_MAX - sent ? done + sent : SIZE_MAX;
             return U16550_CONSOLE_STALLED;
         }
         done = done <= SIZE_MAX - count ? done + count : SIZE_MAX;

@@ -451,6 +451,7 @@ class Beside:
             raise Unknown("a slice that is returned")
         elif written.form:
             made = "".join(f"{one.of.text()} {name};\nmemset(&{name}, 0, sizeof {name});\n" for one, name in zip(written.form.outs, outs))
+            made += "".join(f"{one.of.text()} result_{one.name} = {number};\n" for one, number in written.form.constants)
             call = f"{made}{written.form.status.text()} status = {call};\n"
             shown = self.show_form(result, written.form)
         elif self.types.kind(result).kind == "status":
@@ -458,7 +459,10 @@ class Beside:
         elif result[0] == "Ref":
             call, shown = f"{self.types.c(result).text()} result = {call};\n", self.shown_at(result[1], "(*result)")
         else:
-            call, shown = f"{self.types.c(result).text()} result = {call};\n", self.shown_at(result, "result")
+            # What the C shifts to its place in a register is looked at there.
+            of = self.types.c(result).text()
+            value = f"({of})({call} >> {written.shift})" if written.shift else call
+            call, shown = f"{of} result = {value};\n", self.shown_at(result, "result")
         body = "".join(one.made for one in listing) + call + shown + "".join(one.shown for one in listing)
         self.texts.append(f"void beside_call_{number}(void);\nvoid beside_call_{number}(void)\n{{\n{body}}}\n")
         of_result = "Value::show(&result, &mut out);"
@@ -489,13 +493,14 @@ class Beside:
 
     def show_error(self, of: Type, form: Form | None) -> str:
         """The statements that show whether there is an error, and which one."""
-        places = {one.path[-1:] if one.path else (): f"result_{one.name}" for one in form.outs if one.path != ("value",)} if form else {}
+        outs = [*form.outs, *(one for one, _ in form.constants)] if form else []
+        places = {one.path[-1:] if one.path else (): f"result_{one.name}" for one in outs if one.path != ("value",)}
         told = self.types.told_of(of)
         if told and told.details:
             shown = f"beside_show((uint64_t)status);\nswitch (status) {{\n{self.details(of, [*places.values()][0])}default: break;\n}}\n"
         elif told and not told.is_kept:
             shown = "beside_show((uint64_t)status);\n"
-        elif form and (form.sign or form.outs[-1].path[:1] == ("error",) and len(form.outs[-1].path) > 1):
+        elif form and (form.sign or form.outs and form.outs[-1].path[:1] == ("error",) and len(form.outs[-1].path) > 1):
             (_, given), (_, second) = self.types.fields(of)
             shown = self.shown_at(given, [*places.values()][0]) + ("" if self.types.is_unit(second) else "beside_show((uint64_t)status);\n")
         else:

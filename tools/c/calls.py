@@ -346,7 +346,7 @@ DETAILS = {
         ("UnexpectedLoopbackMsg", "expected"): "expected_msg",
         ("UnexpectedLoopbackMsg", "actual"): "actual_msg",
     }),
-    "SendError": ("size_t", "done", {("Stalled", "value"): "done"}),
+    "SendError": ("size_t", "stalled_at", {("Stalled", "value"): "stalled_at"}),
 }
 
 # What numbers of data stand for: the variants of the proved code have other numbers.

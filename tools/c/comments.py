@@ -18,7 +18,11 @@ OTHERWISE = {
     "Setup::DEFAULT": "{ 1, U16550_WAIT_LAST, 0x0b }",
     "FifoSize::Sixteen": "16",
     "FifoSize": "size",
-    "MCR::READY": "U16550_MCR_READY",
+    "MCR::READY": "DTR, RTS and OUT2",
+    "Idle": "U16550_HANDLE_IDLE",
+    "Custom": "U16550_CORE_BAUD_RATE_CUSTOM",
+    "Custom(9600)": "U16550_CORE_BAUD_RATE_CUSTOM with 9600",
+    "Baud9600": "U16550_CORE_BAUD_RATE_BAUD9600",
     "VecDeque::as_slices": "uart_byte_queue_parts",
     "usize::MAX": "SIZE_MAX",
     "LinePort::handled": "handled",
@@ -61,6 +65,9 @@ IDLE = (
     (r"\bslice\b", "array"),
     (r"\bslices\b", "arrays"),
 )
+# What stands around the name of a call that another one passes on to: it is the driver's, whatever calls of this name there are beside.
+OF_DRIVER = re.compile(r"(?:\s+or\s+`\w+`)?\s+of\s+(?:the|its)\s+driver\b")
+DRIVERS_OWN = re.compile(r"\b(?:driver's|its)\Z")
 # How long a line of a comment is at most.
 WIDTH = 96
 
@@ -81,9 +88,9 @@ class Said:
                 self.found.add(phrase)
         return text
 
-    def unused(self) -> list[str]:
-        """The phrases that no comment has."""
-        return [phrase for phrase, _, _ in self.phrases if phrase not in self.found]
+    def unused(self, own: Sequence[tuple[str, str]]) -> list[str]:
+        """Those of these phrases that no comment has."""
+        return [phrase for phrase, _ in own if phrase not in self.found]
 
 
 @dataclasses.dataclass(frozen=True)
@@ -98,8 +105,8 @@ class Words:
     ok: str = "U16550_OK"
     said: Said = dataclasses.field(default_factory=Said)
 
-    def of(self, name: str) -> str:
-        """What a name is in C."""
+    def of(self, name: str, is_of_driver: bool = False) -> str:
+        """What a name is in C. `is_of_driver` says whether it is the driver's own call, and none of this crate."""
         if name in self.said.names:
             return self.said.names[name]
         if name in self.numbers:
@@ -115,7 +122,8 @@ class Words:
             return f"u16550_{TYPES[of]}{own}"
         if of or name in MEMBERS:
             return own
-        found = next((f"{prefix}{name}" for prefix in (OF_CRATES.get(self.crate, ""), "") if f"{prefix}{name}" in self.calls), None)
+        prefixes = [""] if is_of_driver else [OF_CRATES.get(self.crate, ""), ""]
+        found = next((f"{prefix}{name}" for prefix in prefixes if f"{prefix}{name}" in self.calls), None)
         return f"u16550_{found}" if found else name
 
     def text(self, lines: list[str]) -> list[str]:
@@ -123,11 +131,17 @@ class Words:
         out = self.said.text("\n".join(lines))
         for pattern, word in IDLE:
             out = re.sub(pattern, word, out)
-        return NAME.sub(lambda found: self.at(out, found), out).split("\n")
+        out = NAME.sub(lambda found: self.at(out, found), out)
+        if self.is_true:
+            # What returns no number has no error.
+            out = re.sub(r"^[# ]*Errors\n\s*\n\s*false if", r"Returns false if", out, flags=re.M)
+        return out.split("\n")
 
     def at(self, text: str, found: re.Match[str]) -> str:
         """A name where it stands: a sentence begins with a large letter."""
-        word, before = self.of(found[1]), text[: found.start()].rstrip()
+        before = text[: found.start()].rstrip()
+        is_of_driver = bool(OF_DRIVER.match(text, found.end()) or DRIVERS_OWN.search(before))
+        word = self.of(found[1], is_of_driver)
         return "None" if word == "none" and (not before or before[-1] in ".:") else word
 
 

@@ -6,7 +6,9 @@ import re
 import sys
 
 import calls
+import driver
 import names
+import said
 import syntax as c
 from comments import Said
 from driver import ROOT, text_of
@@ -97,7 +99,6 @@ SAID = (
     ("\n- `RemoteNotClearToSend` if it is empty, but the remote does not assert CTS.", ""),
     (": also if the remote is not clear to send", ""),
     (", or CTS is checked and the remote is not clear to send", ""),
-    (", and drops what a constant configuration does not ask for", ""),
     (" (`fifo_size`)", ""),
     ("a FIFO of the size that is set holds", "the FIFO holds"),
     ("; `flush` of [`embedded_io`](crate::embedded_io) waits until all of it has left the chip", ""),
@@ -166,7 +167,7 @@ def made(folder: pathlib.Path | None) -> tuple[dict[str, str], Library]:
     while more := library.constants():
         known = {key: known.get(key, {}) | more.get(key, {}) for key in known.keys() | more.keys()}
         library = translated(program, source, known)
-    if unused := library.said.unused():
+    if unused := library.said.unused(SAID):
         sys.exit(f"emit: console.py: no comment says {unused[0]!r}")
     text = driver_as_terminal(in_place_of_device(library.text()))
     layer = text_of("layer_console.c")
@@ -178,8 +179,12 @@ def made(folder: pathlib.Path | None) -> tuple[dict[str, str], Library]:
     if found := re.search(rf"\b(uart_config|uart_chip)\b|(->|\.)({'|'.join(GONE)})\b", re.sub(r"/\*[\s\S]*?\*/", "", text) + layer):
         sys.exit(f"emit: {found[0]} is left out, and is read")
     offsets = [f"    UART_{name} = {value}" for name, value in sorted(library.offsets.items(), key=lambda one: (one[1], one[0]))]
-    bits = [f"    {name} = {value:#04x}" for name, value in sorted((library.bits | BITS).items()) if re.search(rf"\b{name}\b", text + layer)]
-    own_numbers = [f"    {name} = {value}" for name, value in sorted(library.numbers.items()) if re.search(rf"\b{name}\b", text)]
+    bits = [
+        f"    {name} = {value:#04x}"
+        for name, value in sorted((library.bits | BITS).items(), key=driver.in_order)
+        if re.search(rf"\b{name}\b", text + layer)
+    ]
+    own_numbers = driver.numbers_of({name: value for name, value in library.numbers.items() if re.search(rf"\b{name}\b", text)})
     numbers = (
         "\n/* Where the registers are, their bits, and numbers of the driver. */\nenum {\n" + ",\n".join(offsets + bits + own_numbers) + "\n};\n"
     )
@@ -230,7 +235,7 @@ def translated(program: Program, source: names.Source, known: dict[Key, Known]) 
     library.types.told = {name: Told(INT, {one: numbered(number) for one, number in numbers.items()}) for name, numbers in NUMBERS.items()}
     library.types.failures, library.types.ok = {"StalledError": STALLED}, OK
     library.types.calls = frozenset(one.name for section in calls.SECTIONS for group in section.groups for one in group.calls)
-    library.large, library.said = set(LARGE), Said(NAMED, SAID)
+    library.large, library.said = set(LARGE), Said(driver.NAMED | NAMED, (*SAID, *said.SAID))
     library.passed_on = {"uart_device_read", "uart_device_write"}
     library.types.put_into_header(("Named", OF_DRIVER.rsplit("::", 2)[0] + "::Uart16550", (DEVICE,)))
     for name in CALLED:

@@ -6,7 +6,7 @@ import pathlib
 import re
 import sys
 import tomllib
-from collections.abc import Iterator
+from collections.abc import Iterator, Mapping
 
 import calls
 import each
@@ -15,10 +15,12 @@ import interface
 import names
 import parts
 import table
+from comments import Said
 from kit import program_of
 from library import Library, Unknown
 from port import named_in
 from representation import proved_lines
+from said import SAID
 from tree import DEVICE
 
 FOLDER = pathlib.Path(__file__).resolve().parent
@@ -40,6 +42,8 @@ NOTES = ("Named", "uart_ring::notes::ErrorNotes", (DEVICE,))
 IN_HEADER = (RING, DESIGN_WARE, NOTES, BUS)
 # Functions that implement traits, by which callers call them; and one that is inside of a call of rings over notes of errors.
 OF_TRAITS = re.compile(r"::embedded_io::|::DesignWareBackend::|::ErrorNotesBackend::|::drop_taken$")
+# What the part of an error is called that C has behind a pointer.
+NAMED = {"done": "*stalled_at"}
 # What is by hand, in front of what is made of the table, and behind the first part of it.
 GUARDS, BY_HAND = ["guards"], ["bottom", "memory", "design_ware", "notes", "bus"]
 TOP = f"""{header.LICENCE}/*
@@ -53,7 +57,16 @@ TOP = f"""{header.LICENCE}/*
  */
 #include "u16550.h"
 
+/* For a switch of many cases: gcc for Cortex-M0 would make a table of it where code is to be small, and call its library for that. */
+#if defined(__GNUC__) && !defined(__clang__) && defined(__OPTIMIZE_SIZE__) && defined(__thumb__) && !defined(__thumb2__)
+#define UART_NO_TABLE __attribute__((__optimize__("no-jump-tables")))
+#else
+#define UART_NO_TABLE
+#endif
+
 """
+# The functions that have such a switch, or what is in the place of a call of one.
+SWITCHES = ("uart_interrupt_type_from_bits", "uart_ring_serve", "uart_ring_serve_up_to")
 
 
 def text_of(name: str) -> str:
@@ -90,6 +103,8 @@ def made(folder: pathlib.Path | None) -> tuple[dict[str, str], Library]:
     library.types.told, library.types.failures = interface.told()
     library.types.silent = set(calls.SILENT)
     library.types.calls = frozenset(one.name for section in calls.SECTIONS for group in section.groups for one in group.calls)
+    library.said = Said(NAMED, SAID)
+    library.words |= dict.fromkeys(SWITCHES, "static UART_NO_TABLE")
     interface.complete(library.types)
     for one in IN_HEADER:
         library.types.put_into_header(one)
@@ -101,32 +116,57 @@ def made(folder: pathlib.Path | None) -> tuple[dict[str, str], Library]:
             sys.exit(f"emit: {name}: {cause}")
     for one in IN_HEADER:
         library.types.c(one)
+    if unused := library.said.unused(SAID):
+        sys.exit(f"emit: said.py: no comment says {unused[0]!r}")
     codes, rows, functions = interface.codes(library.types), interface.layer(library.forms), library.text()
     in_header = [text for name, text in library.types.declarations if name.startswith("u16550_core")]
     texts = [text_of("layer_arithmetic.c"), text_of("layer_top.c"), functions, guards, codes, by_hand, rows, interface.texts()]
     own = named_in([one for one in library.types.declarations if not one[0].startswith("u16550_core")], "\n".join(texts))
-    proved = {one.name.removeprefix("uart_"): proved_lines(one.proved) for one in library.order if one.proved}
+    # What the header calls it.
+    proved = {one.name.removeprefix("uart_"): proved_lines([in_the_header(said) for said in one.proved]) for one in library.order if one.proved}
     header_text = header.of_c(text_of("header_c.h"), version(), "\n".join(in_header), proved)
-    source = [TOP + constants(library, header_text), "\n".join(own), *texts]
+    source = [TOP + constants(library, header_text, "\n".join(texts)), "\n".join(own), *texts]
     of_source, of_header = parts.divided("\n".join(source), header_text)
     return {"u16550.h": of_header, "u16550.c": of_source}, library
 
 
-def constants(library: Library, header_text: str) -> str:
-    """The offsets of registers, and those bits that the header has not."""
+def in_the_header(said: str) -> str:
+    """What is proved of a call as its header says it: each returns a number."""
+    return said.replace("*stalled_at", "*done").replace("if the result is true", "if the result is U16550_OK")
+
+
+def constants(library: Library, header_text: str, code: str) -> str:
+    """The offsets of registers, and those bits of the code that the header has not."""
     shown = {name: int(value, 16) for name, value in re.findall(r"\b(U16550_\w+) = (0x[0-9a-f]+)", header_text)}
     for name, value in library.bits.items():
         if shown.get(name, value) != value:
             sys.exit(f"emit: {name} is {shown[name]:#x} in the header, and {value:#x} in what is proved")
     offsets = [f"    UART_{name} = {value}" for name, value in sorted(library.offsets.items(), key=lambda one: (one[1], one[0]))]
-    bits = [f"    {name} = {value:#04x}" for name, value in sorted(library.bits.items()) if name not in shown]
-    numbers = [f"    {name} = {value}" for name, value in sorted(library.numbers.items())]
+    hidden = {name: value for name, value in library.bits.items() if name not in shown and re.search(rf"\b{name}\b", code)}
+    bits = [f"    {name} = {value:#04x}" for name, value in sorted(hidden.items(), key=in_order)]
     return (
         "/* Numbers of the driver. */\nenum {\n"
-        + ",\n".join(numbers)
-        + "\n};\n\n/* Where the registers are. */\nenum {\n"
+        + ",\n".join(numbers_of(library.numbers))
+        + "\n};\n"
+        + "".join(macros_of(library.numbers))
+        + "\n/* Where the registers are. */\nenum {\n"
         + ",\n".join(offsets)
-        + "\n};\n\n/* Bits that are in no interface. */\nenum {\n"
+        + "\n};\n\n/* Bits of registers that the header does not need. */\nenum {\n"
         + ",\n".join(bits)
         + "\n};\n"
     )
+
+
+def in_order(one: tuple[str, int]) -> list[str | int]:
+    """What names are sorted by: a number within one counts as such."""
+    return [int(part) if part.isdigit() else part for part in re.split(r"(\d+)", one[0])]
+
+
+def numbers_of(numbers: Mapping[str, str]) -> list[str]:
+    """Numbers as members of an enum."""
+    return [f"    {name} = {value}" for name, value in sorted(numbers.items()) if "(" not in value]
+
+
+def macros_of(numbers: Mapping[str, str]) -> list[str]:
+    """Those that are more than an enum has where an int has 16 bits."""
+    return [f"#define {name} {f'({value})' if value.startswith('(') else value}\n" for name, value in sorted(numbers.items()) if "(" in value]

@@ -219,7 +219,8 @@ def body(call: Call, passed: list[str], forms: Forms) -> tuple[list[str], str | 
         return [f"status = {made};"], "status", [(call.stalls, f"status == U16550_OK ? len : {outs[0]}")]
     if call.none and not call.error:
         return [f"status = uart_unless({made}, {number(call.none)});"], "status", [(call.gives, outs[0])]
-    if call.error or outs:
+    form = forms.get(proved_name(call))
+    if call.error or outs or form and form.status is INT:
         value = f"uart_encode_{call.encode}({outs[0]})" if call.encode else outs[0] if outs else ""
         return [f"status = {made};"], "status", [(call.gives, value)] if call.gives else []
     if call.gives:

@@ -9,7 +9,7 @@ static int uart_decode_level(uint8_t from, struct u16550_core_maybe_fifo_trigger
 }
 
 /* Reads a configuration, of which perhaps no divisor can be computed. */
-static int uart_decode_config(const struct u16550_config *from, struct u16550_core_config *to)
+static UART_NO_TABLE int uart_decode_config(const struct u16550_config *from, struct u16550_core_config *to)
 {
     int status = uart_check_flag(from->has_prescaler);
     to->data_bits = U16550_CORE_WORD_LENGTH_EIGHT_BITS;
@@ -379,7 +379,8 @@ int u16550_dump_baud_rate(const struct u16550_dump *dump, const struct u16550_co
         status = uart_decode_config(config, &decoded);
     if (status != U16550_OK)
         return status;
-    if (decoded.frequency == 0 || (decoded.prescaler_division_factor.is_some && decoded.prescaler_division_factor.value > 15))
+    if (decoded.frequency == 0 ||
+        (decoded.prescaler_division_factor.is_some && decoded.prescaler_division_factor.value > UART_MAX_PRESCALER))
         return U16550_NOT_COMPUTABLE;
     status = uart_config_register_dump_baud_rate(dump, &decoded, &rate);
     if (status == U16550_OK)

@@ -127,11 +127,10 @@ int u16550_bus_try_finish(struct u16550_bus *bus)
 
 int u16550_bus_flush(struct u16550_bus *bus)
 {
-    size_t done;
     int status = uart_enter_bus(bus);
     if (status != U16550_OK)
         return status;
-    return uart_leave_bus(bus, uart_half_duplex_flush(&bus->bus, &done));
+    return uart_leave_bus(bus, uart_half_duplex_flush(&bus->bus));
 }
 
 int u16550_bus_is_idle(struct u16550_bus *bus, uint8_t *idle)

@@ -145,6 +145,8 @@ class Written:
     form: results.Form | None = None
     # The parameters by which it does.
     pointers: list[c.Variable] = dataclasses.field(default_factory=list)
+    # How far it shifts what the source returns.
+    shift: int = 0
     is_public: bool = False
     statements: list[c.Statement] = dataclasses.field(default_factory=list)
 
@@ -155,6 +157,10 @@ class Written:
             raise Unknown(f"{self.name} has {len(self.parameters)} parameters, and {len(names)} in the header")
         for one, name in zip(self.parameters, names):
             one.name = name
+
+    def body(self) -> tuple[list[str], list[str]]:
+        """What it is given, and what it does."""
+        return [c.declared(one.of, one.known_name()) for one in self.parameters], c.lines(self.statements)
 
     def called_in_loops(self) -> set[str]:
         """The names of the functions that it calls in a loop."""
@@ -191,6 +197,17 @@ def is_known(value: c.Expression) -> bool:
     if isinstance(value, c.CallOf):
         return value.is_pure and value.fields is not None and all(map(is_known, value.arguments))
     return is_constant(value)
+
+
+def made_of(statements: list[c.Statement]) -> dict[c.Variable, c.Expression]:
+    """The structs that are made of constants, by the variables that have them, and nothing else ever."""
+    found, facts = dict[c.Variable, c.Expression](), passes.Facts(statements)
+    for one in c.all_statements(statements):
+        value = one.value if isinstance(one, c.Set) and isinstance(one.to, c.Var) else None
+        maker = value.maker if isinstance(value, c.Initial) else value if structs.is_maker(value) else None
+        if maker and is_known(maker) and isinstance(one, c.Set) and isinstance(one.to, c.Var) and facts.is_fixed(one.to.variable):
+            found[one.to.variable] = maker
+    return found
 
 
 def is_known_or_number(value: c.Expression) -> bool:
@@ -261,6 +278,8 @@ class Library:
         self.exports = dict[str, tuple[str, list[str]]]()
         # How functions return results, by their names; and what is by hand that they call.
         self.forms, self.helpers = dict[str, results.Form](), dict[str, str]()
+        # The numbers that functions return, as far as they are seen, and those that stand for each in the enum of another error.
+        self.numbers_of, self.other_numbers = dict[str, frozenset[str]](), dict[str, dict[str, str]]()
         # The numbers of the source that have a name there, and what stands in the place of calls of functions of libraries.
         self.numbers, self.inlined = dict[str, str](), dict[str, tuple[c.Expression, list[c.Variable]]]()
         self.bits, self.offsets, self.statics = dict[str, int](), dict[str, int](), dict[tuple[int, ...], str]()
@@ -277,6 +296,10 @@ class Library:
         # The calls that are made in the place of those which only pass on their arguments, and parameters that nothing reads any more.
         self.passed_on, self.unread = set[str](), dict[str, set[int]]()
         self.instead = dict[str, tuple[c.Expression, list[c.Variable]]]()
+        # The bits that results of a function have, if it returns nothing but constants.
+        self.bits_of = dict[str, int]()
+        # Whether functions that return codes of fields shift them; and the functions in whose place another one is called.
+        self.are_codes_shifted, self.joined = False, set[str]()
         # What comments say otherwise in this pair.
         self.said = Said()
         # More structs that are made where they are returned.
@@ -336,6 +359,8 @@ class Library:
                 note_names(body, parameters)
             self.put_members(body.statements)
             written.statements = in_place.run(passes.run(body.statements, body.result, self.with_names), self.is_large)
+            if self.fixed:
+                self.put_members(written.statements)
             # What is constant may be an argument that is known, of another call.
             if self.leave_out_known(written.statements, self.is_constant_call):
                 written.statements = passes.refined(written.statements, self.with_names)
@@ -362,10 +387,13 @@ class Library:
                     self.quiet.add(written.name)
                 self.note_unread(written)
                 passes.narrow_counters(written.statements)
+            if not self.exports and not self.fixed:
+                self.leave_out_unread(written)
+            self.note_passed_on(written)
             if not self.exports:
                 self.convert(written, body)
             if not self.exports:
-                self.make_readable(written)
+                self.make_readable(written, key[0].split("::")[0] in self.forest.own)
             written.statements = structs.hoisted(written.statements, self.name_of_struct)
             passes.on_expressions(written.statements, self.with_register)
             written.statements = readable.with_latch(written.statements, has_latch_bit, self.with_latch)
@@ -381,6 +409,8 @@ class Library:
                 self.name_offsets(written)
                 self.name_numbers(written, key, info)
             parameters = written.parameters
+            if not self.exports and not written.is_public:
+                parameters = self.without_unread_lengths(written)
             value = passes.only_value(written.statements, parameters)
             stands = self.exports and not is_public and (known or value is not None and is_constant(value))
             if value is not None and (stands or self.fixed and known and isinstance(value, c.Literal)):
@@ -399,10 +429,11 @@ class Library:
             raise Unknown(f"{key[0]} calls itself, or a function that could not be translated")
         return found
 
-    def make_readable(self, written: Written) -> None:
-        """Gives a function the shapes that somebody would write."""
+    def make_readable(self, written: Written, is_own: bool) -> None:
+        """Gives a function the shapes that somebody would write. One that is not of our crates may be put in the place of its calls."""
         made = readable.without_flags(readable.with_joined_tests(written.statements))
         made = readable.without_overwritten(readable.with_one_variable(readable.without_result_flags(made)))
+        results.without_idle_numbers(made, self.numbers_of, self.other_numbers, self.types.ok)
         made = passes.refined(made, self.with_names)
         passes.on_expressions(made, lambda one: readable.whole(one, self.members_of))
         made = readable.with_one_idle(readable.without_nulls(readable.without_single_cells(made)))
@@ -411,11 +442,19 @@ class Library:
             lambda key: c.Word(self.statics[key], c.Pointer(c.BYTE, True)) if key in self.statics else None,
             lambda *given: self.helper("uart_copy_bytes", [*given], c.VOID),
         )
+        made = readable.with_tables(made, self.table_of)
         made = readable.without_copies(readable.with_one_variable(readable.with_whole_structs(made, self.members_of)))
+        if is_own:
+            passes.on_expressions(made, readable.with_one_test)
         made = readable.without_nested_choices(readable.with_guards(made), name_of_choice)
-        made = readable.without_choices_of_choices(made)
+        made = readable.with_one_register(readable.without_choices_of_choices(made))
         passes.on_expressions(made, readable.with_bytes)
+        passes.on_expressions(made, readable.with_low_byte)
+        passes.on_expressions(made, readable.with_one_number)
         passes.on_expressions(made, readable.with_constant_last)
+        made = results.with_passed_numbers(made, self.numbers_of, self.types.ok)
+        if numbers := results.numbers_of(made, self.numbers_of):
+            self.numbers_of[written.name] = numbers
         written.statements = made
 
     def members_of(self, of: c.Type) -> list[str]:
@@ -456,10 +495,12 @@ class Library:
         is_size = re.search(r"\busize\b", result) is not None and not re.search(r"\bu64\b", result)
         form = results.form_of(self.types, body.tree.locals[0], written.name, is_size)
         taken = {one.name for one in written.parameters}
-        pointers = [
-            c.Variable(c.Pointer(one.of), one.name if one.name not in taken else f"{one.name}_of", True, -1) for one in (form.outs if form else ())
-        ]
+        names = [one.name if one.name not in taken else f"{one.name}_of" for one in (form.outs if form else ())]
+        names = [called.POINTERS.get((written.name, one), one) for one in names]
+        pointers = [c.Variable(c.Pointer(one.of), name, True, -1) for one, name in zip(form.outs if form else (), names)]
         written.statements = results.Conversion(self.forms, form, pointers).run(written.statements)
+        if form:
+            form, pointers = results.without_constants(written.statements, form, pointers)
         results.pass_on_pointers(written.statements)
         written.statements = passes.refined(written.statements, self.with_names)
         results.pass_on_pointers(written.statements)
@@ -474,14 +515,17 @@ class Library:
     def constants(self) -> dict[Key, Known]:
         """The parameters that are one constant of an enum in all calls: as `known`."""
         calls, found = dict[str, list[list[c.Expression]]](), dict[Key, Known]()
-        for part in (part for one in self.order for part in c.all_parts(one.statements)):
-            if isinstance(part, c.CallOf):
-                calls.setdefault(part.name, []).append(part.arguments)
+        for one in self.order:
+            made = made_of(one.statements)
+            for part in c.all_parts(one.statements):
+                if isinstance(part, c.CallOf):
+                    given = [made.get(each.variable, each) if isinstance(each, c.Var) else each for each in part.arguments]
+                    calls.setdefault(part.name, []).append(given)
         for key, written in self.functions.items():
             if written is None or written.is_public:
                 continue
             facts = passes.Facts(written.statements)
-            left = [order for order in range(len(written.parameters) + len(self.known.get(key, {}))) if order not in self.known.get(key, {})]
+            left = [order for order, one in enumerate(written.given) if one in written.parameters]
             mine = dict[int, c.Expression]()
             for order, parameter, *values in zip(left, written.parameters, *calls.get(written.name, ())):
                 is_one = values and all(map(is_known_or_number if self.fixed else is_constant, values))
@@ -553,10 +597,32 @@ class Library:
             if any(passes.outer_calls(each) for order, each in enumerate(one.arguments) if order not in left):
                 raise Unknown(f"a call of {one.name} with one that would be left out")
             if one.name in self.instead:
-                return with_arguments(*self.instead[one.name], arguments)
+                return c.rebuilt(with_arguments(*self.instead[one.name], arguments), passes.simpler)
             return dataclasses.replace(one, arguments=arguments, expects=tuple(one.expects[order] for order in left) if one.expects else ())
 
         passes.on_expressions(written.statements, change)
+        readable.without_idle_masks(written.statements, self.bits_of)
+
+    def without_unread_lengths(self, written: Written) -> list[c.Variable]:
+        """Leaves out the lengths of arrays that nothing reads. Returns the parameters that are left."""
+        reads = passes.Facts(written.statements).reads
+        gone = {order for order, one in enumerate(written.parameters) if one.known_name().endswith("_len") and not reads.get(one)}
+        if gone:
+            self.unread[written.name] = self.unread.get(written.name, set()) | gone
+            written.parameters = [one for order, one in enumerate(written.parameters) if order not in gone]
+        return written.parameters
+
+    def note_passed_on(self, written: Written) -> None:
+        """Notes of a function that called.py names that the one which it calls stands in the place of its calls."""
+        call = passes.passed_on(written.statements, written.parameters)
+        if written.name in called.PASSED_ON and isinstance(call, c.CallOf):
+            self.instead[written.name] = (call, [*written.parameters])
+        last = written.statements[-1]
+        bits = readable.bits_of_results(written.statements)
+        if bits is not None:
+            self.bits_of[written.name] = bits
+        if not self.fixed and written.name in called.WRITTEN_OUT and isinstance(last, c.Return) and last.value:
+            self.instead[written.name] = (last.value, [*written.parameters])
 
     def note_unread(self, written: Written) -> None:
         """Leaves out the parameters that nothing reads, and notes of a function whether another one stands in the place of its calls."""
@@ -577,7 +643,7 @@ class Library:
     def leave_out_known(self, statements: list[c.Statement], which: Callable[[c.CallOf], bool] = lambda call: True) -> bool:
         """Leaves out the arguments that are known of these calls, and puts what a call stands for in its place. Returns whether there was
         one."""
-        found = False
+        found, made = False, made_of(statements)
 
         def change(one: c.Expression) -> c.Expression:
             nonlocal found
@@ -586,7 +652,9 @@ class Library:
                 return one
             found = True
             for order, value in known.items():
-                if not is_known_or_number(one.arguments[order]) or c.text(one.arguments[order]) != c.text(value):
+                argument = one.arguments[order]
+                argument = made.get(argument.variable, argument) if isinstance(argument, c.Var) else argument
+                if not is_known_or_number(argument) or c.text(argument) != c.text(value):
                     raise Unknown(f"a call of {one.name} without {c.text(value)}")
             left = [order for order in range(len(one.arguments)) if order not in known]
             arguments = [one.arguments[order] for order in left]
@@ -735,8 +803,9 @@ class Library:
         if len(found) > 2:
             raise Unknown(f"an error in {of[1]} with more than two variants")
         (one, its), (_, last) = found.items()
+        self.other_numbers[name] = found
         self.helpers[name] = (
-            f"/* The number of an error that is in another one. */\nstatic inline int {name}(int error)\n{{\n"
+            f"/* The same error as a call names it that makes the one which failed. */\nstatic inline int {name}(int error)\n{{\n"
             f"    return error == {one} ? {its} : {last};\n}}\n"
         )
         return c.CallOf(name, [parts[0]], INT, True, (INT,))
@@ -790,12 +859,11 @@ class Library:
             return dataclasses.replace(one, yes=named(one.yes), no=named(one.no)) if isinstance(one, c.Choice) else one
 
         passes.on_expressions(written.statements, change)
-        is_code, is_text = key[0].endswith("::to_raw_bits"), info is not None and info.module == "tty"
+        self.name_numbers_by_hand(written)
+        is_text = info is not None and info.module == "tty"
         if is_text:
             passes.on_expressions(written.statements, with_characters)
         for one in c.all_statements(written.statements):
-            if is_code and isinstance(one, c.Return) and isinstance(one.value, c.Literal):
-                one.value = dataclasses.replace(one.value, is_bits=True)
             if is_text and isinstance(one, c.Switch) and on_byte(one.on):
                 one.cases = [(labels and [*map(as_character, labels)], body) for labels, body in one.cases]
             if isinstance(one, c.Switch):
@@ -805,6 +873,77 @@ class Library:
                 one.value = named(one.value)
             elif isinstance(one, c.For) and isinstance(one.condition, c.Binary):
                 one.condition = dataclasses.replace(one.condition, right=named(one.condition.right))
+
+    def name_numbers_by_hand(self, written: Written) -> None:
+        """Names the numbers of a function that called.py has names for."""
+        names = called.NUMBERS.get(written.name, {})
+
+        def named(one: c.Expression) -> c.Expression:
+            if not isinstance(one, c.Literal) or one.value not in names:
+                return one
+            name = names[one.value]
+            if not re.match(r"UINT\d", name):
+                self.numbers[name] = c.number_text(dataclasses.replace(one, names=(), is_bits="_CODE" in name or name.startswith("UART_ALL")))
+            return dataclasses.replace(one, names=(name,))
+
+        passes.on_expressions(written.statements, named)
+        for one in c.all_statements(written.statements):
+            if isinstance(one, c.Switch):
+                one.on = c.rebuilt(one.on, named)
+                one.cases = [(labels and [named(each) for each in labels], body) for labels, body in one.cases]
+
+    def shift_codes(self) -> None:
+        """Has the functions that return the code of a field return it where the field is in its register, with the names of its bits, where
+        each call shifts it to there."""
+        calls = [part for one in self.order for part in c.all_parts(one.statements)]
+        for written in self.order:
+            names = called.CODES.get(written.name)
+            if names is None or self.known_of.get(written.name):
+                continue
+            count = sum(isinstance(part, c.CallOf) and part.name == written.name for part in calls)
+            shifted = {shift[1] for part in calls if (shift := shift_of(part, written.name))}
+            if len(shifted) > 1 or shifted and sum(shift_of(part, written.name) is not None for part in calls) != count:
+                raise Unknown(f"calls of {written.name} that shift by more than one number")
+            written.shift = shifted.pop() if shifted else 0
+            for other in self.order:
+                passes.on_expressions(other.statements, lambda part: found[0] if (found := shift_of(part, written.name)) else part)
+            bits = dict[str, int]()
+            for one in c.all_statements(written.statements):
+                if isinstance(one, c.Return) and isinstance(one.value, c.Literal):
+                    value = one.value.value << written.shift
+                    mine = names.get(value, ())
+                    bits |= {mine[-1]: value - sum(bits[each] for each in mine[:-1])} if mine else {}
+                    one.value = c.Literal(value, one.value.of, tuple(f"{self.prefix}_{each}" for each in mine), is_bits=True)
+            if list(bits) != list(dict.fromkeys(each for mine in names.values() for each in mine)):
+                raise Unknown(f"{written.name} has not the codes of called.py")
+            self.bits |= {f"{self.prefix}_{name}": value for name, value in bits.items()}
+        for written in self.order:
+            register = f"{written.name.split('_')[1].upper()}_"
+            known = {value: names for codes in called.CODES.values() for value, names in codes.items() if names[0].startswith(register)}
+            passes.on_expressions(written.statements, lambda one: self.with_code(one, known))
+
+    def with_code(self, one: c.Expression, known: Mapping[int, tuple[str, ...]]) -> c.Expression:
+        """A constant code that is shifted to its field, by its name there, if that is one bit or one field."""
+        shifted = one.operand if isinstance(one, c.Cast) else None
+        if not isinstance(shifted, c.Binary) or shifted.operator != "<<":
+            return one
+        code, by = shifted.left, shifted.right
+        if not isinstance(code, c.Literal) or not isinstance(by, c.Literal) or len(names := known.get(code.value << by.value, ())) != 1:
+            return one
+        self.bits[f"{self.prefix}_{names[0]}"] = code.value << by.value
+        return c.Literal(code.value << by.value, one.of, (f"{self.prefix}_{names[0]}",))
+
+    def join_same(self) -> None:
+        """Calls one function in the place of another one that is the same."""
+        found = {one.name: one for one in self.order}
+        for name, other in called.SAME.items():
+            if name in found and other in found and found[name].body() == found[other].body():
+                self.joined.add(name)
+        for one in self.order:
+            passes.on_expressions(one.statements, self.joined_call)
+
+    def joined_call(self, one: c.Expression) -> c.Expression:
+        return dataclasses.replace(one, name=called.SAME[one.name]) if isinstance(one, c.CallOf) and one.name in self.joined else one
 
     def number_name(self, name: str, module: str) -> str:
         return f"UART_{module.upper()}_{name}" if name in READ.values() or name in WRITTEN.values() or name == "NONE" else f"UART_{name}"
@@ -857,9 +996,12 @@ class Library:
         names = exact[:1] or (single if sum(bits[name] for name in single) == literal.value and len(single) <= 4 else [])
         if not names or exact == [] and sum(bits[name] for name in names) != literal.value:
             return dataclasses.replace(literal, is_of_register=bool(bits))
-        for name in names:
-            self.bits[f"{self.prefix}_{register}_{name}"] = bits.get(name, literal.value)
-        return c.Literal(literal.value, literal.of, tuple(f"{self.prefix}_{register}_{name}" for name in names))
+        # A header of the library for C has the names of the source.
+        renamed = {} if self.exports else called.BITS
+        own = {name: f"{register}_{name}" for name in names}
+        shown = {f"{self.prefix}_{renamed.get(one, one)}": bits.get(name, literal.value) for name, one in own.items()}
+        self.bits |= shown
+        return c.Literal(literal.value, literal.of, tuple(shown))
 
     def size_of(self, item: c.Type) -> int | None:
         """How many bytes a number has in the MIR, or a struct of bytes."""
@@ -889,6 +1031,13 @@ class Library:
             count = sum(name.startswith(f"uart_{base}_bytes") for name in self.statics.values())
             self.statics[key] = called.ARRAYS.get(bytes(key)) or f"uart_{base}_bytes{count + 1 if count else ''}"
         return c.Word(self.statics[key], c.Pointer(c.BYTE, True))
+
+    def table_of(self, values: tuple[int, ...]) -> c.Word | None:
+        """A constant array of these bytes, if called.py has a name for it."""
+        name = called.TABLES.get(values)
+        if name:
+            self.statics[values] = name
+        return c.Word(name, c.Pointer(c.BYTE, True)) if name else None
 
     def all_bits(self, key: Key) -> int:
         """The bits that `Flags::all` joins: those of the table in the MIR."""
@@ -1028,7 +1177,7 @@ class Library:
         in_loops, out, text = self.called_in_loops(), list[Written](), "" if self.exports else None
         calls = {part.name for one in self.order for part in c.all_parts(one.statements) if isinstance(part, c.CallOf)}
         for one in reversed(self.order):
-            if one.name in self.inlined and one.name not in calls:
+            if one.name not in calls and (one.name in self.inlined or one.name in called.PASSED_ON | called.WRITTEN_OUT | self.joined):
                 continue
             if text is None or one.is_public or re.search(rf"\b{one.name}\(", text):
                 out.insert(0, one)
@@ -1041,6 +1190,10 @@ class Library:
 
     def text(self) -> str:
         """The functions with what they need, without what the header has."""
+        if not self.exports and not self.are_codes_shifted:
+            self.shift_codes()
+            self.join_same()
+            self.are_codes_shifted = True
         in_loops = self.called_in_loops()
         functions = "\n".join(one.text(in_loops, self.short, self.apart, self.words) for one in self.called())
         out = [text for name, text in sorted(self.helpers.items()) if f"{name}(" in functions]
@@ -1060,6 +1213,15 @@ def field_of(bits: Mapping[str, int], value: int) -> list[str]:
             field = name.rstrip("0123456789").rstrip("_")
             fields[field] = fields.get(field, 0) | bit
     return [name for name, joined in fields.items() if joined == value and joined & (joined - 1)]
+
+
+def shift_of(one: c.Expression | c.Variable, name: str) -> tuple[c.CallOf, int] | None:
+    """The call of this function that is shifted here, and how far."""
+    shifted = one.operand if isinstance(one, c.Cast) else None
+    if not isinstance(shifted, c.Binary) or shifted.operator != "<<" or not isinstance(shifted.right, c.Literal):
+        return None
+    call = readable.without_cast(shifted.left)
+    return (call, shifted.right.value) if isinstance(call, c.CallOf) and call.name == name else None
 
 
 def has_latch_bit(one: c.Expression) -> bool:

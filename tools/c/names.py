@@ -15,13 +15,14 @@ Definition: TypeAlias = tuple[str, str, str]
 Named: TypeAlias = tuple[str, str]
 OPENING = {"(": ")", "{": "}", "[": "]"}
 # Definitions that contracts are built of, of which C says nothing: they say what a call of a driver is, and not which.
-GENERAL = set("IfAny Implies IsOnly IsOnlyIfAny OnDriver OnRings Plain Saving TerminalMade Times".split())
+GENERAL = set("IfAny Implies IsCapacity IsOnly IsOnlyIfAny OnDriver OnRings Plain Saving TerminalMade Times".split())
 # What others say, where their own words need what is around them in the contract.
 SAID = {
-    "HasParity": "the field is a code of this parity",
-    "HasTrigger": "the field is the code of this trigger level",
-    "HasWordLength": "the field is the code of this word length",
-    "IsCovering": "value * times / per, rounded up, if that fits into 64 bits",
+    "HasParity": "these bits are a code of this parity",
+    "HasTrigger": "these bits are the code of this trigger level",
+    "HasWordLength": "these bits are the code of this word length",
+    "IsCovering": "the exact quotient, rounded up; or none, if that does not fit into 64 bits, or is by 0",
+    "IsWithin": "the exact quotient, rounded down; or none, if that does not fit into 64 bits, or is by 0",
     "SameOutside": "no other bit changes",
     "Sets": "no access is made, and nothing else of the driver changes",
 }

@@ -2,7 +2,7 @@
 from __future__ import annotations
 
 import dataclasses
-from collections.abc import Callable, Iterator
+from collections.abc import Callable, Iterator, Mapping
 
 import passes
 import syntax as c
@@ -10,6 +10,8 @@ import syntax as c
 Statements = list[c.Statement]
 # The names of the members of a struct of C, in order, or none if it is not known.
 MembersOf = Callable[[c.Type], list[str]]
+# How the functions are called that return a register with another field.
+STEPS = ("uart_lcr_with_", "uart_fcr_with_", "uart_mcr_with_")
 # Of these members on a struct is copied as a whole, with what differs behind that.
 MANY = 4
 
@@ -111,6 +113,35 @@ def opposite(one: c.Expression) -> c.Expression:
     return passes.simpler(c.negated(one))
 
 
+def bits_of_results(statements: Statements) -> int | None:
+    """The bits that are in some result of a function, if it returns nothing but constants."""
+    bits = 0
+    for one in c.all_statements(statements):
+        if isinstance(one, c.Return):
+            if not isinstance(one.value, c.Literal):
+                return None
+            bits |= one.value.value
+    return bits
+
+
+def without_idle_masks(statements: Statements, bits_of: Mapping[str, int]) -> None:
+    """Without masks that clear no bit of what a function returned: `bits_of` has the bits that are in some result of it."""
+    facts = passes.Facts(statements)
+    known = dict[c.Variable, int]()
+    for one in c.all_statements(statements):
+        if isinstance(one, c.Set) and isinstance(one.to, c.Var) and isinstance(one.value, c.CallOf) and one.value.name in bits_of:
+            if facts.definitions.get(one.to.variable) == 1:
+                known[one.to.variable] = bits_of[one.value.name]
+
+    def change(one: c.Expression) -> c.Expression:
+        if isinstance(one, c.Binary) and one.operator == "&" and isinstance(one.left, c.Var) and isinstance(one.right, c.Literal):
+            bits = known.get(one.left.variable)
+            return one.left if bits is not None and bits & one.right.value == bits else one
+        return one
+
+    passes.on_expressions(statements, change)
+
+
 def is_little(body: Statements) -> bool:
     """Whether statements may as well stand twice."""
     return not body or len(body) == 1 and isinstance(body[0], (c.Set, c.Return, c.Break, c.Continue))
@@ -149,6 +180,28 @@ def with_one_variable(statements: Statements) -> Statements:
                 del body[order]
                 replace(statements, gone, kept)
                 return change(body)
+        return body
+
+    return on_lists(statements, change)
+
+
+def with_one_register(statements: Statements) -> Statements:
+    """One variable for what a register is to have, in the place of another one for each step of it."""
+
+    def change(body: Statements) -> Statements:
+        for order, one in enumerate(body):
+            call = one.value if isinstance(one, c.Set) and isinstance(one.to, c.Var) else None
+            if not isinstance(one, c.Set) or not isinstance(one.to, c.Var) or not isinstance(call, c.CallOf) or not call.arguments:
+                continue
+            to, first = one.to.variable, call.arguments[0]
+            is_step = call.name.startswith(STEPS) and isinstance(first, c.Var) and not first.variable.is_parameter and first.variable is not to
+            if not is_step or not isinstance(first, c.Var) or to.is_parameter or to.of.text() != first.of.text():
+                continue
+            kept = first.variable
+            if passes.mentioned(statements, kept) != 2 or passes.mentioned(body[: order + 1], kept) != 2 or passes.mentions(body[:order], to):
+                continue
+            replace(statements, to, kept)
+            return change(body)
         return body
 
     return on_lists(statements, change)
@@ -368,6 +421,48 @@ def bytes_of(statements: Statements, array: c.Variable) -> Iterator[int]:
         yield one.value.value
 
 
+def with_tables(statements: Statements, table_of: Callable[[tuple[int, ...]], c.Expression | None]) -> Statements:
+    """A pointer to one of some constant arrays, in the place of an array that gets the numbers of one of them, one by one."""
+    arrays = {part.variable for part in c.all_parts(statements) if isinstance(part, c.Var) and part.of.text().startswith("struct uart_")}
+    for array in arrays:
+        places = [part for part in c.all_parts(statements) if isinstance(part, c.Index) and is_cell(part.pointer, array)]
+        groups = [found for body in passes.every_list(statements) if (found := group_of(body, array))]
+        values = [tuple(number for _, number in group) for group in groups]
+        tables = [table_of(one) for one in values]
+        is_all = len(places) == passes.mentioned(statements, array) and len({*map(len, values)}) == 1
+        is_read = len(places) > sum(map(len, groups))
+        sets = [one for one in c.all_statements(statements) if isinstance(one, c.Set) and isinstance(one.to, c.Index) and one.to in places]
+        if array.is_parameter or len(groups) < 2 or None in tables or not is_all or not is_read or len(sets) != sum(map(len, groups)):
+            continue
+        item = places[0].of
+        array.of = c.Pointer(c.BYTE, True)
+        for group, table in zip(groups, tables):
+            body = next(body for body in passes.every_list(statements) if group[0][0] in body)
+            first = body.index(group[0][0])
+            body[first : first + len(group)] = [c.Set(c.Var(array), table)] if table else []
+        passes.on_expressions(
+            statements, lambda part: read_of(part, array, item) if isinstance(part, c.Index) and is_cell(part.pointer, array) else part
+        )
+        passes.on_expressions(statements, passes.simpler)
+    return statements
+
+
+def read_of(one: c.Index, array: c.Variable, item: c.Type) -> c.Expression:
+    """A number of a table, as the number that it would be of an array."""
+    return c.Cast(item, c.Index(c.Var(array), one.index))
+
+
+def group_of(body: Statements, array: c.Variable) -> list[tuple[c.Set, int]]:
+    """The statements of a list that set the numbers of an array from its first one on, with these numbers."""
+    out = list[tuple[c.Set, int]]()
+    for one in body:
+        place = one.to if isinstance(one, c.Set) and isinstance(one.to, c.Index) and is_cell(one.to.pointer, array) else None
+        if isinstance(one, c.Set) and place and isinstance(place.index, c.Literal) and isinstance(one.value, c.Literal):
+            if place.index.value == len(out) and (not out or body[body.index(one) - 1] is out[-1][0]):
+                out.append((one, one.value.value))
+    return out
+
+
 def with_one_idle(statements: Statements) -> Statements:
     """One variable in the place of two of one type that calls only write, and nobody reads."""
     lent = [part.place.variable for part in c.all_parts(statements) if isinstance(part, c.AddressOf) and isinstance(part.place, c.Var)]
@@ -497,6 +592,35 @@ def with_constant_last(one: c.Expression) -> c.Expression:
     return one
 
 
+def with_one_number(one: c.Expression) -> c.Expression:
+    """A sum in the place of one that is added to and taken from: what is left of `a + b - a`, and one number in the place of two."""
+    if not isinstance(one, c.Binary) or not isinstance(one.left, c.Binary) or one.left.operator != "+" or not is_wide(one.of):
+        return one
+    first, second = one.left.left, one.left.right
+    if one.operator == "-" and is_quiet(one.right) and (same(first, one.right) or same(second, one.right)):
+        return second if same(first, one.right) else first
+    if one.operator == "+" and isinstance(second, c.Literal) and isinstance(one.right, c.Literal) and not second.names and not one.right.names:
+        return c.Binary("+", first, c.Literal(second.value + one.right.value, one.right.of), one.of)
+    return one
+
+
+def is_wide(of: c.Type) -> bool:
+    """Whether numbers of a type are computed as they are, and not as an `int`: what is too large for them is left out at each step alike."""
+    return isinstance(of, c.Number) and of.bits >= 32
+
+
+def with_one_test(one: c.Expression) -> c.Expression:
+    """What an option has, or else 0, in the place of two tests: that it has nothing, or no more than so much."""
+    if not isinstance(one, c.Binary) or one.operator != "||" or not isinstance(one.left, c.Unary) or not isinstance(one.right, c.Binary):
+        return one
+    flag, value = one.left.operand, one.right.left
+    is_flag = one.left.operator == "!" and isinstance(flag, c.Field) and flag.name == "is_some"
+    is_value = isinstance(value, c.Field) and value.name == "value" and one.right.operator == "<=" and isinstance(one.right.right, c.Literal)
+    if not isinstance(flag, c.Field) or not isinstance(value, c.Field) or not is_flag or not is_value or not same(flag.base, value.base):
+        return one
+    return dataclasses.replace(one.right, left=c.Choice(flag, value, c.Literal(0, value.of)))
+
+
 def is_quiet(one: c.Expression) -> bool:
     """Whether an expression does nothing, and what it reads nothing beside it changes."""
     return not any(isinstance(part, c.CallOf) and not part.is_pure for part in c.every(one))
@@ -516,6 +640,13 @@ def with_bytes(one: c.Expression) -> c.Expression:
             shifted = c.Binary("<<", c.Cast(one.of, without_cast(high.right)), c.Literal(8, one.of), one.of)
             return c.Cast(one.of, c.Binary("|", shifted, low, one.of))
     return one
+
+
+def with_low_byte(one: c.Expression) -> c.Expression:
+    """The low byte of a number, without the bits that a cast leaves out in any case."""
+    masked = one.operand if isinstance(one, c.Cast) and one.of.text() == "uint8_t" else None
+    is_masked = isinstance(masked, c.Binary) and masked.operator == "&" and isinstance(masked.right, c.Literal) and masked.right.value == 0xFF
+    return dataclasses.replace(one, operand=masked.left) if isinstance(one, c.Cast) and isinstance(masked, c.Binary) and is_masked else one
 
 
 def is_of_bits(one: c.Expression, bits: int) -> bool:

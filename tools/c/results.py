@@ -35,7 +35,6 @@ NAMES = (
     (r"cells_in_memory", "cells"),
     (r"\w*interrupt_type\w*", "interrupt"),
     (r"take_errors", "errors"),
-    (r"level_of", "level"),
     (r"stuck_reason|look_once_more|count_\w+", "why"),
     (r"dll_dlm|attach", "latch"),
     (r"\w*fault", "fault"),
@@ -43,6 +42,9 @@ NAMES = (
     (r"send_some|receive_some|read|write|send_bytes|copy_\w+|send_expansion", "count"),
     (r"\w*_ready", "ready"),
 )
+
+# Functions whose callers pass on what they return, whether there is something or not: it stays one value.
+PASSED_ON = ("level_of",)
 
 
 @dataclasses.dataclass(frozen=True)
@@ -80,6 +82,8 @@ class Form:
     ok: str
     number: str = ""
     sign: Path = ()
+    # What would go through a pointer, and is one and the same number whenever there is something: that number.
+    constants: tuple[tuple[Out, int], ...] = ()
 
     def of_ok(self) -> c.Word:
         return c.Word(self.ok, INT)
@@ -97,6 +101,10 @@ class Form:
             return failed if flag.name == "true" else self.of_ok()
         return c.Choice(flag, failed, self.of_ok())
 
+    def constant(self, path: Path) -> int | None:
+        """The number that is in any case where a path leads to."""
+        return next((number for one, number in self.constants if one.path == path), None)
+
     def out_of(self, path: Path) -> Out | None:
         """What goes through a pointer that a path leads to or into."""
         for one in self.outs:
@@ -109,7 +117,7 @@ class Form:
 def form_of(types: Representation, of: Type, function: str, is_size: bool) -> Form | None:
     """How a function that returns this does it, or None if it is one value in C. `is_size` says whether its numbers of 64 bits are sizes."""
     kind = types.kind(of) if of != "Unit" else None
-    if kind is None or kind.kind not in ("option", "outcome", "either", "status"):
+    if kind is None or kind.kind not in ("option", "outcome", "either", "status") or function.endswith(PASSED_ON):
         return None
 
     def out(path: Path, inner: Type, name: str) -> list[Out]:
@@ -311,15 +319,24 @@ class Conversion:
         if isinstance(value, c.Var) and (split := self.split.get(value.variable)):
             _, status, kept = split
             sets = [c.Set(to, place) for to, place in zip(places, kept) if not isinstance(place, c.Deref)]
-            return [*sets, c.Return(c.Var(status))]
+            return [*self.constants(form, split[0], places), *sets, c.Return(c.Var(status))]
         inner = self.form(value)
         if inner and isinstance(value, c.CallOf):
-            if inner.outs != form.outs and [one.of.text() for one in inner.outs] != [one.of.text() for one in form.outs]:
+            constants = self.constants(form, inner, places)
+            left = [place for one, place in zip(form.outs, places) if inner.constant(one.path) is None]
+            types = [one.of.text() for one in form.outs if inner.constant(one.path) is None]
+            if inner.outs != form.outs and [one.of.text() for one in inner.outs] != types:
                 raise Unknown("a result that is returned in another form")
-            return [c.Return(self.call(inner, value, places))]
+            return [*constants, c.Return(self.call(inner, value, left))]
         if isinstance(value, c.Choice):
             return [c.If(self.expression(value.condition), self.returned(form, value.yes), []), *self.returned(form, value.no)]
         return self.written(form, self.expression(value), places, c.Return)
+
+    @staticmethod
+    def constants(form: Form, inner: Form, places: list[c.Expression]) -> Statements:
+        """What a function writes that returns the result of another one, which has no pointer for it."""
+        numbers = [(place, inner.constant(one.path)) for one, place in zip(form.outs, places)]
+        return [c.Set(place, c.Literal(number, place.of)) for place, number in numbers if number is not None]
 
     def written(self, form: Form, value: c.Expression, places: list[c.Expression], end: Callable[[c.Expression], c.Statement]) -> Statements:
         """What a struct has that a maker makes, or that is somewhere, in the places of it; and its status, as `end` has it."""
@@ -388,7 +405,9 @@ class Conversion:
         """A member of the struct that would be."""
         if path in (form.flag, form.sign):
             return form.reading(path, status)
-        to = form.out_of(path)
+        to, number = form.out_of(path), form.constant(path)
+        if number is not None:
+            return c.Literal(number, of)
         if to is None and form.number and path[:1] == ("error",):
             # What nobody reads of an error: it goes with the struct that it would be a part of.
             return c.Word("uart_silent", of)
@@ -412,6 +431,29 @@ class Conversion:
         return c.CallOf(one.name, [*given, *pointers], form.status, False, expects)
 
 
+def without_constants(statements: Statements, form: Form, pointers: list[c.Variable]) -> tuple[Form, list[c.Variable]]:
+    """A function without the pointers of an error to which it writes one and the same number, if anything: its form, and the pointers that
+    are left."""
+    outs, left, constants = list[Out](), list[c.Variable](), list[tuple[Out, int]]()
+    for one, pointer in zip(form.outs, pointers):
+        sets = [each for each in c.all_statements(statements) if isinstance(each, c.Set) and is_behind(each.to, pointer)]
+        numbers = {each.value.value if isinstance(each.value, c.Literal) else None for each in sets} or {0}
+        number = numbers.pop()
+        if one.path[:1] != ("error",) or one.members or numbers or number is None or passes.mentioned(statements, pointer) != len(sets):
+            outs.append(one)
+            left.append(pointer)
+            continue
+        constants.append((one, number))
+        for body in passes.every_list(statements):
+            body[:] = [each for each in body if each not in sets]
+    return dataclasses.replace(form, outs=tuple(outs), constants=tuple(constants)), left
+
+
+def is_behind(one: c.Expression, pointer: c.Variable) -> bool:
+    """Whether this is what a pointer leads to."""
+    return isinstance(one, c.Deref) and passes.is_of(one.pointer, pointer)
+
+
 def of_path(whole: c.Expression, path: Path, of: c.Type) -> c.Expression:
     """The part of a struct that some names lead to."""
     if is_maker(whole) and path and isinstance(whole, c.CallOf) and path[0] in whole.members():
@@ -429,6 +471,71 @@ def leaves(one: c.Expression, form: Form, path: Path = ()) -> list[tuple[Path, c
     if isinstance(one, c.CallOf) and is_maker(one) and is_deeper and not is_whole:
         return [leaf for name, part in one.members().items() for leaf in leaves(part, form, (*path, name))]
     return [(path, one)]
+
+
+# The numbers that functions return, by their names.
+Numbers: TypeAlias = Mapping[str, frozenset[str]]
+
+
+def numbers_of(statements: Statements, known: Numbers) -> frozenset[str] | None:
+    """The names of all numbers that a function returns, or None if it is not seen."""
+    found = list[c.Expression]()
+    for one in c.all_statements(statements):
+        if isinstance(one, c.Return) and one.value is not None and isinstance(one.value, c.Var):
+            found += values_of(statements, one.value.variable) or [one.value]
+        elif isinstance(one, c.Return) and one.value is not None:
+            found.append(one.value)
+    return numbers_in(found, known)
+
+
+def values_of(statements: Statements, variable: c.Variable) -> list[c.Expression]:
+    """All values that a variable gets."""
+    return [one.value for one in c.all_statements(statements) if isinstance(one, c.Set) and passes.assigns(one, variable)]
+
+
+def numbers_in(values: list[c.Expression], known: Numbers) -> frozenset[str] | None:
+    """The names of the numbers that some values may be."""
+    out = set[str]()
+    for one in values:
+        if isinstance(one, c.Word) and one.of is INT:
+            out.add(one.name)
+        elif isinstance(one, c.CallOf) and one.name in known:
+            out |= known[one.name]
+        else:
+            return None
+    return frozenset(out) if out else None
+
+
+def without_idle_numbers(statements: Statements, known: Numbers, others: Mapping[str, Mapping[str, str]], ok: str) -> None:
+    """A number in the place of a call that gives an error its number in another enum, where only one error can come. `others` has these
+    numbers, by the function that gives them."""
+
+    def change(one: c.Expression) -> c.Expression:
+        error = one.arguments[0] if isinstance(one, c.CallOf) and one.name in others else None
+        if not isinstance(one, c.CallOf) or not isinstance(error, c.Var):
+            return one
+        errors = (numbers_in(values_of(statements, error.variable), known) or frozenset()) - {ok}
+        numbers = {others[one.name][name] for name in errors}
+        return c.Word(numbers.pop(), INT) if len(numbers) == 1 else one
+
+    passes.on_expressions(statements, change)
+
+
+def with_passed_numbers(statements: Statements, known: Numbers, ok: str) -> Statements:
+    """The number that another function returns, in the place of a choice between no error and the only one that it has."""
+    if len(statements) < 2:
+        return statements
+    test, last = statements[-2:]
+    if not isinstance(test, c.If) or test.no or len(test.yes) != 1 or not isinstance(test.yes[0], c.Return) or not isinstance(last, c.Return):
+        return statements
+    error, none, condition = test.yes[0].value, last.value, test.condition
+    if not isinstance(error, c.Word) or not isinstance(none, c.Word) or not isinstance(condition, c.Binary) or condition.operator != "!=":
+        return statements
+    call, compared = condition.left, condition.right
+    is_of_ok = none.name == ok and isinstance(compared, c.Word) and compared.name == ok
+    if not is_of_ok or not isinstance(call, c.CallOf) or known.get(call.name) != frozenset((ok, error.name)):
+        return statements
+    return [*statements[:-2], c.Return(call)]
 
 
 def join_statuses(statements: Statements) -> None:

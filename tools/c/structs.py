@@ -69,7 +69,7 @@ def placed(statements: Statements, members: Members) -> None:
 
 def initial(maker: c.CallOf, members: Members) -> c.Initial:
     given = maker.members()
-    return c.Initial([fitting(given.get(name, zero), zero.of, members) for name, zero in members(maker)], maker.of)
+    return c.Initial([fitting(given.get(name, zero), zero.of, members) for name, zero in members(maker)], maker.of, maker)
 
 
 def fitting(one: c.Expression, of: c.Type, members: Members) -> c.Expression:

@@ -241,6 +241,7 @@ class Initial:
 
     values: list[Expression]
     of: Type
+    maker: CallOf | None = None  # what would make it
 
 
 @dataclasses.dataclass(eq=False)
@@ -508,7 +509,7 @@ def side(one: Expression, operator: str, is_right: bool) -> str:
 
 def branch(one: Expression) -> str:
     """The text of what a choice may be. g++ warns of one that is a name of an enum if the other is none."""
-    is_of_enum = isinstance(one, Word) and isinstance(one.of, Code) or isinstance(one, Literal) and len(one.names) == 1
+    is_of_enum = isinstance(one, Word) and isinstance(one.of, Code) or isinstance(one, Literal) and len(one.names) == 1 and one.value <= 0x7FFF
     return text(Cast(one.of, one)) if is_of_enum else at_level(one, 3)
 
 
