@@ -78,7 +78,6 @@ enum {
     U16550_FCR_FIFO_64_ENABLE = 0x20,
     U16550_FCR_FIFO_ENABLE = 0x01,
     U16550_FCR_RX_FIFO_RESET = 0x02,
-    U16550_FCR_RX_FIFO_TRIGGER_LEVEL = 0xc0,
     U16550_FCR_TRIGGER_1 = 0x00,
     U16550_FCR_TRIGGER_4 = 0x40,
     U16550_FCR_TRIGGER_8 = 0x80,
@@ -450,7 +449,7 @@ static inline void uart_first_to_last(struct u16550_received *items, size_t coun
 }
 #endif
 
-/* The same error as a call names it that makes the one which failed. */
+/* Returns the number that the caller has for the same error. */
 static inline int uart_init_error_of(int error)
 {
     return error == U16550_FRAME_NON_INTEGER_DIVISOR ? U16550_INIT_NON_INTEGER_DIVISOR : U16550_INIT_DIVISOR_OUT_OF_RANGE;
@@ -663,9 +662,10 @@ static inline bool uart_whole_quotient(uint32_t dividend, uint64_t divisor, uint
 }
 
 /*
- * Returns the divisor for a baud rate, or the baud rate for a divisor, if it is a whole number:
- * frequency / (16 * (prescaler + 1) * factor), where the factor is what is given of the two. The
- * product is computed in 64 bits: it reaches 16 * 16 * (2^32 - 1).
+ * Returns the divisor for a baud rate, or the baud rate for a divisor: it is frequency / (16 *
+ * (prescaler + 1) * factor), if that is a whole number. With the baud rate as the factor that is
+ * the divisor, and with the divisor it is the baud rate. The product is computed in 64 bits: it
+ * reaches 16 * 16 * (2^32 - 1).
  */
 static inline bool
 uart_divide_clock(uint32_t frequency, uint32_t factor,
@@ -677,7 +677,8 @@ uart_divide_clock(uint32_t frequency, uint32_t factor,
 }
 
 /*
- * Returns the divisor that gives a baud rate at a clock frequency in hertz. Nothing is rounded.
+ * Returns the divisor that gives a baud rate at a clock frequency in hertz: frequency / (16 *
+ * (prescaler + 1) * baud_rate). Nothing is rounded.
  *
  * Errors
  *
@@ -1178,22 +1179,11 @@ static uint8_t uart_fcr_of_trigger_level(uint8_t fifo_trigger_level)
 }
 
 /*
- * Returns the register with this trigger level. No other bit changes.
- *
- * Proved: these bits are the code of this trigger level.
- * Proved: no other bit changes.
- */
-static inline uint8_t uart_fcr_with_trigger_level(uint8_t fcr, uint8_t level)
-{
-    return (fcr & (uint8_t)~U16550_FCR_RX_FIFO_TRIGGER_LEVEL) | uart_fcr_of_trigger_level(level);
-}
-
-/*
  * Returns FCR for FIFOs that are on and stay on. Without the reset bits the bytes in them stay.
  */
 static inline uint8_t uart_fcr_of_running_fifos(uint8_t level)
 {
-    return uart_fcr_with_trigger_level(U16550_FCR_FIFO_ENABLE, level);
+    return U16550_FCR_FIFO_ENABLE | uart_fcr_of_trigger_level(level);
 }
 
 /* Returns whether this is what a 16750 shows while its FIFOs are on and hold 64. */
@@ -1310,11 +1300,11 @@ uart_level_of(const struct u16550_core_driver *uart, bool on)
 }
 
 /* Returns FCR for a trigger level. */
-static inline uint8_t uart_fcr_of_level(struct u16550_core_maybe_fifo_trigger_level level)
+static inline uint8_t uart_fcr_resetting_fifos(struct u16550_core_maybe_fifo_trigger_level level)
 {
     uint8_t resets = U16550_FCR_RX_FIFO_RESET | U16550_FCR_TX_FIFO_RESET;
     if (level.is_some)
-        return uart_fcr_with_trigger_level(resets | U16550_FCR_FIFO_ENABLE, level.value);
+        return resets | U16550_FCR_FIFO_ENABLE | uart_fcr_of_trigger_level(level.value);
     return resets;
 }
 
@@ -1327,7 +1317,7 @@ static inline uint8_t uart_fcr_of_level(struct u16550_core_maybe_fifo_trigger_le
 static inline bool
 uart_set_fifo(struct u16550_core_driver *uart, struct u16550_core_maybe_fifo_trigger_level level)
 {
-    uart_write_register(uart, UART_FCR, uart_fcr_of_level(level));
+    uart_write_register(uart, UART_FCR, uart_fcr_resetting_fifos(level));
     return level.is_some && uart_isr_fifo_enabled(uart_isr(uart));
 }
 
@@ -2012,13 +2002,13 @@ static bool uart_change_fifos(struct u16550_core_driver *uart, uint8_t action)
     case U16550_FIFOS_KEEP:
         return on;
     case U16550_FIFOS_RESET:
-        uart_write_register(uart, UART_FCR, uart_fcr_of_level(uart_level_of(uart, on)));
+        uart_write_register(uart, UART_FCR, uart_fcr_resetting_fifos(uart_level_of(uart, on)));
         return on;
     case U16550_FIFOS_DISABLE:
     default: {
         struct u16550_core_maybe_fifo_trigger_level none =
             { false, U16550_CORE_FIFO_TRIGGER_LEVEL_ONE };
-        uart_write_register(uart, UART_FCR, uart_fcr_of_level(none));
+        uart_write_register(uart, UART_FCR, uart_fcr_resetting_fifos(none));
         return false;
     }
     }

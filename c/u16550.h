@@ -1228,7 +1228,10 @@ int u16550_send_bytes_while(struct u16550 *uart, const uint8_t *buffer, size_t l
  */
 int u16550_flush_while(struct u16550 *uart, uint8_t (*keep_waiting)(void *context), void *context);
 
-/* Some bytes, and a wait for the first. They return U16550_STALLED as the last two. */
+/*
+ * Some bytes after a wait for the first, and a wait until all is sent. These three return U16550_STALLED after as many unsuccessful
+ * polls in a row as the spin limit. The last two do not wait: they say whether there is a byte, or room for one.
+ */
 int u16550_read(struct u16550 *uart, uint8_t *buffer, size_t len, size_t *count);
 int u16550_write(struct u16550 *uart, const uint8_t *buffer, size_t len, size_t *count);
 int u16550_flush(struct u16550 *uart);
@@ -1246,7 +1249,7 @@ int u16550_is_idle(struct u16550 *uart, uint8_t *idle);
  */
 /*
  * Proved: one read of MCR, which shows all bits set, as a bus does that nobody drives, exactly if
- * the result is U16550_OK.
+ * *gone is 1.
  */
 int u16550_is_gone(struct u16550 *uart, uint8_t *gone);
 

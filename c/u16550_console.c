@@ -310,7 +310,7 @@ static inline uint8_t uart_fcr_with_trigger_level(uint8_t fcr)
  *
  * The level is fourteen in each call, and so it is left out.
  */
-static inline uint8_t uart_fcr_of_level(void)
+static inline uint8_t uart_fcr_resetting_fifos(void)
 {
     return uart_fcr_with_trigger_level(U16550_FCR_RX_FIFO_RESET | U16550_FCR_TX_FIFO_RESET |
         U16550_FCR_FIFO_ENABLE);
@@ -332,7 +332,7 @@ static inline bool uart_isr_fifo_enabled(uint8_t isr)
  */
 static inline bool uart_set_fifo(void)
 {
-    uart_device_write(UART_FCR, uart_fcr_of_level());
+    uart_device_write(UART_FCR, uart_fcr_resetting_fifos());
     return uart_isr_fifo_enabled(uart_device_read(UART_ISR));
 }
 

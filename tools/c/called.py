@@ -16,7 +16,7 @@ FUNCTIONS = {
     "uart_fifo_size_characters": "uart_fifo_depth",
     "uart_fifo_size_largest_up_to": "uart_fifo_size_up_to",
     "uart_frame_of": "uart_lcr_of_config",
-    "uart_fifo_control_of": "uart_fcr_of_level",
+    "uart_fifo_control_of": "uart_fcr_resetting_fifos",
     "uart_level_control_of": "uart_fcr_of_running_fifos",
     "uart_break_of": "uart_lcr_with_break",
     "uart_outputs_of": "uart_mcr_with_output",
@@ -37,7 +37,7 @@ FUNCTIONS = {
 # Functions that only call another one, which stands in the place of their calls; and those that are another one, which is called instead.
 PASSED_ON = {"uart_isr_interrupt_type"}
 # Functions whose one value stands in the place of their calls: each field of a register is set once.
-WRITTEN_OUT = {"uart_lcr_with_word_length", "uart_lcr_with_parity"}
+WRITTEN_OUT = {"uart_lcr_with_word_length", "uart_lcr_with_parity", "uart_fcr_with_trigger_level"}
 SAME = {"uart_read_plain": "uart_read_register"}
 # Members of structs, by their crate and name.
 MEMBERS = {("uart_16550", "Expansion"): ["text", "len"]}

@@ -698,7 +698,8 @@ The same wait as u16550_flush, and no longer than keep_waiting wants.""", [
             Call("flush_while", "struct u16550 *uart, uint8_t (*keep_waiting)(void *context), void *context"),
         ]),
         Group("""
-Some bytes, and a wait for the first. They return U16550_STALLED as the last two.""", [
+Some bytes after a wait for the first, and a wait until all is sent. These three return U16550_STALLED after as many unsuccessful
+polls in a row as the spin limit. The last two do not wait: they say whether there is a byte, or room for one.""", [
             Call("read", "struct u16550 *uart, uint8_t *buffer, size_t len, size_t *count", gives="count"),
             Call("write", "struct u16550 *uart, const uint8_t *buffer, size_t len, size_t *count", gives="count"),
             Call("flush", "struct u16550 *uart"),

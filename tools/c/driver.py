@@ -123,16 +123,19 @@ def made(folder: pathlib.Path | None) -> tuple[dict[str, str], Library]:
     texts = [text_of("layer_arithmetic.c"), text_of("layer_top.c"), functions, guards, codes, by_hand, rows, interface.texts()]
     own = named_in([one for one in library.types.declarations if not one[0].startswith("u16550_core")], "\n".join(texts))
     # What the header calls it.
-    proved = {one.name.removeprefix("uart_"): proved_lines([in_the_header(said) for said in one.proved]) for one in library.order if one.proved}
+    proved = {
+        one.name.removeprefix("uart_"): proved_lines([in_the_header(one.name, said) for said in one.proved]) for one in library.order if one.proved
+    }
     header_text = header.of_c(text_of("header_c.h"), version(), "\n".join(in_header), proved)
     source = [TOP + constants(library, header_text, "\n".join(texts)), "\n".join(own), *texts]
     of_source, of_header = parts.divided("\n".join(source), header_text)
     return {"u16550.h": of_header, "u16550.c": of_source}, library
 
 
-def in_the_header(said: str) -> str:
-    """What is proved of a call as its header says it: each returns a number."""
-    return said.replace("*stalled_at", "*done").replace("if the result is true", "if the result is U16550_OK")
+def in_the_header(name: str, said: str) -> str:
+    """What is proved of a function as the header says it of the call: that returns a number, and has an answer behind a pointer."""
+    answer = {"uart_is_gone": "*gone is 1"}.get(name, "the result is U16550_OK")
+    return said.replace("*stalled_at", "*done").replace("the result is true", answer)
 
 
 def constants(library: Library, header_text: str, code: str) -> str:

@@ -805,7 +805,7 @@ class Library:
         (one, its), (_, last) = found.items()
         self.other_numbers[name] = found
         self.helpers[name] = (
-            f"/* The same error as a call names it that makes the one which failed. */\nstatic inline int {name}(int error)\n{{\n"
+            f"/* Returns the number that the caller has for the same error. */\nstatic inline int {name}(int error)\n{{\n"
             f"    return error == {one} ? {its} : {last};\n}}\n"
         )
         return c.CallOf(name, [parts[0]], INT, True, (INT,))

@@ -128,15 +128,24 @@ def without_idle_masks(statements: Statements, bits_of: Mapping[str, int]) -> No
     """Without masks that clear no bit of what a function returned: `bits_of` has the bits that are in some result of it."""
     facts = passes.Facts(statements)
     known = dict[c.Variable, int]()
+
+    def bits(one: c.Expression) -> int | None:
+        if isinstance(one, c.Literal):
+            return one.value
+        if isinstance(one, c.Binary) and one.operator == "|":
+            left, right = bits(one.left), bits(one.right)
+            return None if left is None or right is None else left | right
+        return known.get(one.variable) if isinstance(one, c.Var) else bits_of.get(one.name) if isinstance(one, c.CallOf) else None
+
     for one in c.all_statements(statements):
-        if isinstance(one, c.Set) and isinstance(one.to, c.Var) and isinstance(one.value, c.CallOf) and one.value.name in bits_of:
-            if facts.definitions.get(one.to.variable) == 1:
-                known[one.to.variable] = bits_of[one.value.name]
+        if isinstance(one, c.Set) and isinstance(one.to, c.Var) and facts.definitions.get(one.to.variable) == 1:
+            if (found := bits(one.value)) is not None:
+                known[one.to.variable] = found
 
     def change(one: c.Expression) -> c.Expression:
-        if isinstance(one, c.Binary) and one.operator == "&" and isinstance(one.left, c.Var) and isinstance(one.right, c.Literal):
-            bits = known.get(one.left.variable)
-            return one.left if bits is not None and bits & one.right.value == bits else one
+        if isinstance(one, c.Binary) and one.operator == "&" and isinstance(one.right, c.Literal):
+            left = bits(one.left)
+            return one.left if left is not None and left & one.right.value == left else one
         return one
 
     passes.on_expressions(statements, change)

@@ -35,8 +35,13 @@ SAID = (
     (
         ": the two are factors of one product. So both errors have one relation, 'this result and no other', over one equation that is a product,"
         " while the code divides.\n\nThe ticks are computed in 64 bits: they reach",
-        ", if it is a whole number: frequency / (16 * (prescaler + 1) * factor), where the factor is what is given of the two. The product is"
-        " computed in 64 bits: it reaches",
+        ": it is frequency / (16 * (prescaler + 1) * factor), if that is a whole number. With the baud rate as the factor that is the divisor, and"
+        " with the divisor it is the baud rate. The product is computed in 64 bits: it reaches",
+    ),
+    (
+        "Returns the divisor that gives a baud rate at a clock frequency in hertz. Nothing is rounded.",
+        "Returns the divisor that gives a baud rate at a clock frequency in hertz: frequency / (16 * (prescaler + 1) * baud_rate). Nothing is"
+        " rounded.",
     ),
     (
         "Returns the factor if it is a factor. It is taken apart and put together again, so that the compiler sees that the test of the called"
