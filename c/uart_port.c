@@ -276,7 +276,7 @@ static inline uint8_t uart_chip_lcr(const struct uart_chip *uart_chip)
 /*
  * Returns the word length with this code, which is in the low two bits. Higher bits are ignored.
  *
- * Proved: the field is the code of this word length.
+ * Proved: these bits are the code of this word length.
  */
 static inline enum uart_word_length uart_word_length_from_raw_bits(uint8_t bits)
 {
@@ -295,7 +295,7 @@ static inline enum uart_word_length uart_word_length_from_raw_bits(uint8_t bits)
 /*
  * Returns the number of data bits of a character.
  *
- * Proved: the field is the code of this word length.
+ * Proved: these bits are the code of this word length.
  */
 static inline enum uart_word_length uart_lcr_word_length(uint8_t lcr)
 {
@@ -2714,8 +2714,8 @@ uint8_t uart_port_read(struct uart_port *port, uint8_t offset, struct uart_todo 
  */
 static inline void uart_arrive_all(struct uart_chip *chip, const uint8_t *bytes, size_t bytes_len)
 {
-    for (size_t byte = 0; byte < bytes_len; byte++)
-        uart_controlling_arrive_live(chip, bytes[byte], 0);
+    for (size_t i = 0; i < bytes_len; i++)
+        uart_controlling_arrive_live(chip, bytes[i], 0);
 }
 
 /* Characters come in, as many as there is room for. Returns how many. */
@@ -2927,7 +2927,7 @@ static inline void uart_reset_transmitter(struct uart_chip *parts, uint8_t value
 /*
  * Returns the trigger level with this code, which is in the low two bits. Higher bits are ignored.
  *
- * Proved: the field is the code of this trigger level.
+ * Proved: these bits are the code of this trigger level.
  */
 static inline enum uart_fifo_trigger_level uart_fifo_trigger_level_from_raw_bits(uint8_t bits)
 {
@@ -2946,7 +2946,7 @@ static inline enum uart_fifo_trigger_level uart_fifo_trigger_level_from_raw_bits
 /*
  * Returns the trigger level of the receiver FIFO.
  *
- * Proved: the field is the code of this trigger level.
+ * Proved: these bits are the code of this trigger level.
  */
 static inline enum uart_fifo_trigger_level uart_fcr_fifo_trigger_level(uint8_t fcr)
 {

@@ -617,7 +617,7 @@ class Library:
         call = passes.passed_on(written.statements, written.parameters)
         if written.name in called.PASSED_ON and isinstance(call, c.CallOf):
             self.instead[written.name] = (call, [*written.parameters])
-        last = written.statements[-1]
+        last = written.statements[-1] if written.statements else None
         bits = readable.bits_of_results(written.statements)
         if bits is not None:
             self.bits_of[written.name] = bits
@@ -1305,6 +1305,9 @@ def name_variables(body: Body, written: Written, parameters_of: Callable[[str], 
         base = names.get(origin) if origin is not None else None
         if base and variable.hint == "len":
             base += "_len"
+        if base == "byte" and isinstance(variable.of, c.Number) and variable.of.bits == 64:
+            # The place of a byte, which the source does not name.
+            base = "i"
         home = home_of(written.statements, variable)
         found = [base] if base else [*hints.of(variable), variable.hint or by_type(body, variable)]
         words = [safe(re.sub(r"\W", "_", one)) for one in found]
