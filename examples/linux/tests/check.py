@@ -414,11 +414,12 @@ def pull_out(bench, name):
     bench.run(f"stty -F /dev/{name} raw -echo clocal 115200")
     writer = bench.task(f"exec 5<> /dev/{name}; echo ready; "
                         "for n in $(seq 1 100); do echo $n >&5 || break; usleep 100000; done").ready()
-    reader = bench.task(f"cat < /dev/{name}")
+    # Both have the terminal open before: a program that comes too late finds none.
+    reader = bench.task(f"exec 5< /dev/{name}; echo ready; cat <&5").ready()
     bench.guest.tell_monitor("device_del card")
     wrote, read = (task.result(30).split("\n") for task in (writer, reader))
     bench.run(f"n=0; while [ -e /sys/bus/pci/devices/{CARD} ] && [ $n != 100 ]; do n=$((n+1)); usleep 100000; done")
-    return wrote[1].removeprefix("sh: "), read[0].split()[0], bench.run(f"ls /dev/{name} 2> /dev/null").strip()
+    return wrote[1].removeprefix("sh: "), read[1].split()[0], bench.run(f"ls /dev/{name} 2> /dev/null").strip()
 
 
 def is_pulled_out(bench):
