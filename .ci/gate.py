@@ -22,6 +22,8 @@ from typing import Any, NamedTuple, NoReturn
 
 TOP = pathlib.Path(__file__).resolve().parent.parent
 COUNTED = re.compile(r"^(\d+) passed, (\d+) failed")
+# How a line names what failed.
+FAILURE = re.compile(r"FAILED|: failed\b")
 BEGAN = time.monotonic()
 DAY = 24 * 60 * 60
 
@@ -330,6 +332,17 @@ def table(commands: Iterable[Command]) -> list[str]:
         f"| {one.words[:42]:<42} | {one.passed:>6} | {one.failed:>6} | {one.skipped:>7} | {one.wall:>7.0f} | {one.cpu:>5.0f} |" f" {one.status}"
         for one in commands
     ]
+
+
+def what_failed(commands: Iterable[Command], most: int = 10) -> list[str]:
+    """Returns of each command that failed the lines that name what did, or its last ones if none does: who has the end of a log alone is to
+    know why."""
+    told = []
+    for one in (one for one in commands if one.failed):
+        named = [line for line in one.lines if FAILURE.search(line)] or one.lines[-most:]
+        told += [f"{one.words}: {line[:300]}" for line in named[:most]]
+        told += [f"{one.words}: and {len(named) - most} more"] if len(named) > most else []
+    return told
 
 
 def last_line(commands: Sequence[Command]) -> str:

@@ -13,9 +13,9 @@ run, and nothing is taken that an earlier run kept but proofs, which the kit che
 only the commands whose name has one of them are run, which is not the gate.
 
 What cannot be installed is skipped by name. A command that tests nothing has failed, but for those whose entry says what they need. Each
-minute a line says what is running. At the end are tables of seconds, of the commands and of the proofs, and of sizes; the last line is 'N passed, M
-failed' over all commands, kept ones too, with ', K skipped' behind it if something was skipped, and the status is 0 if nothing failed. What
-takes hours is in .ci/nightly.
+minute a line says what is running. At the end are tables of seconds, of the commands and of the proofs, and of sizes, and what failed by
+name; the last line is 'N passed, M failed' over all commands, kept ones too, with ', K skipped' behind it if something was skipped, and the
+status is 0 if nothing failed. What takes hours is in .ci/nightly.
 """
 import concurrent.futures
 import pathlib
@@ -71,6 +71,8 @@ OF_RUST = [*PAGES, "crates/*", "bench/*", "tools/*"]
 # The page is made of the erased crates, the examples and what is by hand.
 OF_THE_PAGE = [*PAGES, *PROOFS, "crates/*", "bench/*", "tools/*", "c/*"]
 READMES = [*C_PAGES, "README.md", "*/README.md", "*/COMPAT.md"]
+# What tests in Rust include beside what cargo builds.
+INCLUDED = ["docs/PROVED.md", "docs/EVIDENCE.md", "bench/interrupts/src/counting.rs"]
 # What users of these files have: how they are installed, their tests, the page, and what they cost.
 OF_USERS_OF_C = [*PAGES, "crates/*", "bench/*", "tools/eraser/*", "integration/*", "examples/*"]
 
@@ -97,7 +99,7 @@ COMMANDS = [
     Command(CI, always=True),
     beside("tools/eraser/erase test"),
     beside("tools/eraser/erase corpus"),
-    beside("integration/readme", without=OF_RUST, but=READMES),
+    beside("integration/readme", without=OF_RUST, but=[*READMES, *INCLUDED]),
     beside("integration/packages", without=OF_RUST, but=READMES),
     beside("rust/tests/interface", without=OF_RUST, but=[*READMES, "CHANGELOG.md"]),
     beside("integration/rust apart"),
@@ -124,7 +126,7 @@ COMMANDS = [
     beside(
         "integration/c",
         without=OF_USERS_OF_C,
-        but=["docs/C.md", "docs/C_INTERRUPTS.md", "integration/apt", "integration/c", "bench/callbacks.c", "bench/README.md"],
+        but=["docs/C.md", "docs/C_INTERRUPTS.md", "integration/apt", "integration/bounds", "integration/c", "bench/callbacks.c", "bench/README.md"],
     ),
     # It waits for the libraries below alone, and so runs beside what `rt ci` does last: that proves this crate too, and does not build it.
     Command(C, after=OF_C, always=True),
@@ -269,6 +271,8 @@ def main() -> bool:
     has_passed = is_green(chosen, is_same)
     if has_passed and is_same and not words:
         hand_over("tests")
+    for line in gate.what_failed(chosen):
+        say(line)
     if words:
         print("This is not the gate: it was asked for some commands alone.")
     print(gate.last_line(chosen))
