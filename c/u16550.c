@@ -11,6 +11,20 @@
  */
 #include "u16550.h"
 
+/* What a header in the place of stdint.h may lack. */
+#ifndef UINT16_MAX
+#define UINT16_MAX 0xffff
+#endif
+#ifndef UINT32_C
+#define UINT32_C(number) ((uint32_t)number##UL)
+#endif
+#ifndef SIZE_MAX
+#define SIZE_MAX ((size_t)-1)
+#endif
+#ifndef UINTPTR_MAX
+#define UINTPTR_MAX ((uintptr_t)-1)
+#endif
+
 /* For a switch of many cases: gcc for Cortex-M0 would make a table of it where code is to be small, and call its library for that. */
 #if defined(__GNUC__) && !defined(__clang__) && defined(__OPTIMIZE_SIZE__) && defined(__thumb__) && !defined(__thumb2__)
 #define UART_NO_TABLE __attribute__((__optimize__("no-jump-tables")))
@@ -18,45 +32,102 @@
 #define UART_NO_TABLE
 #endif
 
-/* Numbers of the driver. */
-enum {
-    UART_ALL_INTERRUPTS = 0xff,
-    UART_BUSY = 1,
-    UART_BUSY_DETECT = 0x07,
-    UART_CAUSE = 0x0f,
-    UART_CODE = 0x0f,
-    UART_CODE_DATA_READY = 0x04,
-    UART_CODE_DMA_RX_END = 0x0e,
-    UART_CODE_DMA_TX_END = 0x0a,
-    UART_CODE_LINE_STATUS = 0x06,
-    UART_CODE_MODEM_STATUS = 0x00,
-    UART_CODE_THR_EMPTY = 0x02,
-    UART_CODE_TIMEOUT = 0x0c,
-    UART_FIFO_SIZE = 16,
-    UART_FIRST_PATTERN = 0x42,
-    UART_FLOOD = 257,
-    UART_KEPT = 64,
-    UART_LEAST_LIMIT = 6,
-    UART_MAX_CAPACITY = 4096,
-    UART_MAX_INTERRUPTS = 8,
-    UART_MAX_PRESCALER = 15,
-    UART_MOST_WAITING = 17,
-    UART_ROUNDS = 4,
-    UART_SAMPLES_PER_BIT = 16,
-    UART_SECOND_PATTERN = 0x73,
-    UART_SERVING_DATA = 0x04,
-    UART_SERVING_NONE = 0x01,
-    UART_TEST_BYTE = 0x42,
-    UART_TIMEOUT = 0x0c,
-    UART_UNDRIVEN = 0xff,
-    UART_XOFF = 0x13,
-    UART_XON = 0x11
-};
+/* The clock. */
+/* Of a PC, in hertz. */
 #define UART_DEFAULT_FREQUENCY UINT32_C(1843200)
-#define UART_DEFAULT_SPIN_LIMIT UINT32_C(1000000)
+#define UART_NANOSECONDS_PER_SECOND UINT32_C(1000000000)
 #define UART_MOST_32 UINT32_C(4294967295)
 #define UART_MOST_64 ((uint64_t)-1)
-#define UART_NANOSECONDS_PER_SECOND UINT32_C(1000000000)
+enum {
+    /* The receiver looks so often at a bit: the clock is divided by this too. */
+    UART_SAMPLES_PER_BIT = 16,
+    /* The prescaler has four bits, and divides by one more than they say. */
+    UART_MAX_PRESCALER = 15
+};
+
+/* Waits, and the FIFOs. */
+/* Looks at a register until a wait has failed. */
+#define UART_DEFAULT_SPIN_LIMIT UINT32_C(1000000)
+enum {
+    /* Of a 16550, in characters. */
+    UART_FIFO_SIZE = 16,
+    /* The number of characters in a full FIFO and the shift register. */
+    UART_MOST_WAITING = 17,
+    /*
+     * How many bytes are sent: one more than the largest FIFO holds. The shift register takes the
+     * first of them, so a FIFO of 256 is full although the last character may still be on its way.
+     */
+    UART_FLOOD_LENGTH = 257
+};
+
+/* Is there a chip, and does it work. */
+enum {
+    /*
+     * The patterns that are written to the scratch register. Where no chip is, a read returns
+     * something too, often 0xff. A place that always returns the first pattern fails the second.
+     */
+    UART_FIRST_PATTERN = 0x42,
+    UART_SECOND_PATTERN = 0x73,
+    /* What a read shows if no device is there to drive the lines of the bus: all bits set. */
+    UART_UNDRIVEN = 0xff,
+    /* What the loopback test sends first. */
+    UART_TEST_BYTE = 0x42
+};
+
+#if !defined(U16550_OMIT_DESIGN_WARE) || !defined(U16550_OMIT_RINGS)
+/* The low four bits of ISR: which interrupt is pending. The last one is a DesignWare UART's. */
+enum {
+    /* The bits themselves. */
+    UART_CODE = 0x0f,
+    UART_CODE_NONE = 0x01,
+    UART_CODE_MODEM_STATUS = 0x00,
+    UART_CODE_THR_EMPTY = 0x02,
+    UART_CODE_DATA_READY = 0x04,
+    UART_CODE_LINE_STATUS = 0x06,
+    UART_CODE_TIMEOUT = 0x0c,
+    UART_CODE_DMA_RX_END = 0x0e,
+    UART_CODE_DMA_TX_END = 0x0a,
+    UART_CODE_BUSY_DETECT = 0x07
+};
+#endif
+
+#ifndef U16550_OMIT_RINGS
+/* The rings. */
+enum {
+    /* The largest capacity of a ring, in bytes. */
+    UART_MAX_CAPACITY = 4096,
+    /*
+     * The most interrupts that one call of u16550_ring_service serves. A broken chip can show
+     * interrupts without end, and no call may wait.
+     */
+    UART_MAX_INTERRUPTS = 8,
+    /*
+     * A chip that works shows at most five interrupts in a row without a byte that moves and without
+     * news from outside. After one more it has shown that none is pending, or news came. A round of
+     * fewer tells nothing: one of a single interrupt never ends with U16550_HANDLE_IDLE.
+     */
+    UART_LEAST_LIMIT = 6,
+    UART_ALL_INTERRUPTS = 0xff,
+    /* Flow control by characters: go on, and stop. */
+    UART_XON = 0x11,
+    UART_XOFF = 0x13
+};
+#endif
+
+#ifndef U16550_OMIT_DESIGN_WARE
+/* A DesignWare UART. */
+enum {
+    /* The bit of USR. */
+    UART_USR_BUSY = 1,
+    /* How many received characters are kept while LCR is written. */
+    UART_MOST_KEPT = 64,
+    /*
+     * How often in one read of ISR an interrupt is ended that the driver cannot serve. One is enough
+     * on a chip that works, and a second one may come meanwhile.
+     */
+    UART_MOST_ENDED = 4
+};
+#endif
 
 /* Where the registers are. */
 enum {
@@ -325,10 +396,10 @@ static inline uintptr_t uart_times(uintptr_t number, uint8_t times)
 #if UART_MULTIPLIES >= 32
     return (uintptr_t)(number * times);
 #else
-    /* Not known to a compiler: clang would make a product of it again. */
-    volatile uint8_t known = times;
+    /* Hidden from the compiler: clang would make a product of this loop. */
+    volatile uint8_t hidden = times;
     uintptr_t product = 0;
-    for (times = known; times != 0; number = (uintptr_t)(number << 1), times >>= 1) {
+    for (times = hidden; times != 0; number = (uintptr_t)(number << 1), times >>= 1) {
         if ((times & 1) != 0)
             product = (uintptr_t)(product + number);
     }
@@ -486,10 +557,10 @@ static const uint8_t uart_levels_of_128[4] = { 16, 32, 112, 120 };
 static const uint8_t uart_levels_of_256[4] = { 1, 64, 128, 254 };
 #endif
 
-/* Reads a register of which no bits are saved. */
-static inline uint8_t uart_read_register(struct u16550_core_driver *uart, size_t offset)
+/* Reads a register, and saves nothing of what that clears in the chip. */
+static inline uint8_t uart_read_register(struct u16550_core_driver *uart, uint8_t offset)
 {
-    return uart_device_read(&uart->backend, (uint8_t)offset);
+    return uart_device_read(&uart->backend, offset);
 }
 
 /* Reads and returns the line control register (LCR). Reading it changes nothing. */
@@ -506,9 +577,9 @@ static inline uint8_t uart_mcr(struct u16550_core_driver *uart)
 
 /* Writes a register. */
 static inline void
-uart_write_register(struct u16550_core_driver *uart, size_t offset, uint8_t value)
+uart_write_register(struct u16550_core_driver *uart, uint8_t offset, uint8_t value)
 {
-    uart_device_write(&uart->backend, (uint8_t)offset, value);
+    uart_device_write(&uart->backend, offset, value);
 }
 
 /*
@@ -573,11 +644,17 @@ static inline bool uart_isr_fifo_enabled(uint8_t isr)
  */
 static int uart_attach(struct u16550_core_driver *uart, struct uart_latch *latch)
 {
+    /*
+     * LCR comes first, since its DLAB says what other offsets are: on later chips some of its
+     * values show further registers in place of MCR and ISR. ISR comes last, after the latch
+     * too, since its read may acknowledge an interrupt, and a refusal is to change nothing.
+     */
     if ((uart_lcr(uart) & U16550_LCR_DLAB) != 0)
         return U16550_ATTACH_DIVISOR_LATCH_OPEN;
     if ((uart_mcr(uart) & U16550_MCR_LOOP_BACK) != 0)
         return U16550_ATTACH_LOOPBACK;
     struct uart_latch shown = uart_dll_dlm(uart);
+    /* No port is set up so, and where nothing answers all registers may read as 0. */
     if (shown.dll == 0 && shown.dlm == 0)
         return U16550_ATTACH_NO_DIVISOR;
     uart->fifo_enabled = uart_isr_fifo_enabled(uart_isr(uart));
@@ -767,8 +844,8 @@ static uint8_t uart_lcr_of_parity(uint8_t parity)
 /* Returns LCR for a configuration. */
 static inline uint8_t uart_lcr_of_config(const struct u16550_core_config *config)
 {
-    uint8_t word_length = uart_lcr_of_word_length(config->data_bits);
-    uint8_t lcr = word_length | uart_lcr_of_parity(config->parity);
+    uint8_t length_bits = uart_lcr_of_word_length(config->data_bits);
+    uint8_t lcr = length_bits | uart_lcr_of_parity(config->parity);
     if (config->extra_stop_bits)
         lcr |= U16550_LCR_MORE_STOP_BITS;
     return lcr;
@@ -863,6 +940,9 @@ uart_check_divisor(struct u16550_core_driver *uart, uint16_t expected,
     struct u16550_difference *difference)
 {
     uint8_t lcr = uart_lcr(uart);
+    /*
+     * If DLAB was not taken, offset 0 is still the receiver, and a read takes a byte from it.
+     */
     int status = uart_keep_line(uart, lcr | U16550_LCR_DLAB, difference);
     if (status != U16550_OK) {
         uart_write_register(uart, UART_LCR, lcr);
@@ -870,6 +950,10 @@ uart_check_divisor(struct u16550_core_driver *uart, uint16_t expected,
     }
     uint8_t dll = uart_read_register(uart, UART_DLL);
     uint8_t dlm = uart_read_register(uart, UART_DLM);
+    /*
+     * While DLAB is still set, neither data nor IER can be reached, so that is told before a
+     * wrong divisor.
+     */
     status = uart_keep_line(uart, lcr, difference);
     if (status != U16550_OK)
         return status;
@@ -892,6 +976,10 @@ uart_check_fifos(struct u16550_core_driver *uart, uint8_t interrupts,
     struct u16550_difference *difference)
 {
     bool expected = uart->fifo_enabled;
+    /*
+     * With no interrupt enabled ISR shows none, so its read acknowledges no THR_EMPTY. If that
+     * is enabled and the transmitter is empty, the last write raises it again.
+     */
     uart_write_register(uart, UART_IER, 0);
     bool shown = uart_isr_fifo_enabled(uart_isr(uart));
     uart_write_register(uart, UART_IER, interrupts);
@@ -913,6 +1001,10 @@ static int
 uart_check_registers(struct u16550_core_driver *uart, uint8_t frame, uint8_t outputs,
     uint8_t interrupts, uint16_t divisor, struct u16550_difference *difference)
 {
+    /*
+     * LCR comes first, since its DLAB says what other offsets are. What is only read comes
+     * before what has to be written for it.
+     */
     int status = uart_check_frame(uart, frame, difference);
     if (status != U16550_OK)
         return status;
@@ -1026,8 +1118,8 @@ static inline bool uart_keeps(struct u16550_core_driver *uart, uint8_t pattern)
 }
 
 /*
- * Proved: the scratch register keeps both patterns; or it does not keep the first; or it keeps the
- * first and not the second.
+ * Proved: the first pattern is written and, if it is kept, the second; the result is whether both
+ * were kept.
  */
 static inline bool uart_keeps_patterns(struct u16550_core_driver *uart)
 {
@@ -1130,8 +1222,8 @@ static inline void uart_disable_interrupts(struct u16550_core_driver *uart, uint
 }
 
 /*
- * Polls LSR until it shows these bits, or until the limit. Each wait has a loop of its own over
- * the limit, so the polls that count are those in a row: progress begins a new count.
+ * Polls LSR until it shows these bits, or until the limit. Each call counts anew: the polls that
+ * count are those in a row.
  *
  * Proved: a wait for these bits of LSR: fewer reads without them than the limit and then one with
  * them; or as many without them.
@@ -1189,6 +1281,10 @@ static inline uint8_t uart_fcr_of_running_fifos(uint8_t level)
 /* Returns whether this is what a 16750 shows while its FIFOs are on and hold 64. */
 static inline bool uart_is_64_shown(uint8_t isr)
 {
+    /*
+     * A 16750 leaves bit 4 clear. Where nobody answers a bus mostly shows FF or 7F, which have
+     * it.
+     */
     return uart_isr_fifo_enabled(isr) && (isr & U16550_ISR_FIFO_64_ENABLED) != 0 &&
         (isr & U16550_ISR_DMA_RX_END) == 0;
 }
@@ -1231,15 +1327,28 @@ static int uart_enable_64_byte_fifos(struct u16550_core_driver *uart, bool *enab
         return U16550_FIFOS_OFF;
     uint8_t lcr = uart_lcr(uart);
     uint8_t ier = uart_ier(uart);
+    /* A chip that switches empties its FIFOs: a byte that is still to go out would be lost. */
     if (!uart_wait_for(uart, U16550_LSR_TRANSMITTER_EMPTY))
         return U16550_FIFOS_STALLED;
     uint8_t control = uart_fcr_of_running_fifos(uart_fifo_level(uart));
+    /*
+     * With two stop bits the frame may make LCR 0xbf, for which later chips show another
+     * register in place of FCR. A receiver looks at one stop bit, so it loses no character.
+     * While DLAB is set a handler could reach neither data nor IER.
+     */
     uart_write_register(uart, UART_IER, 0);
+    /* A 16750 looks at the bit only while DLAB is set, by its data sheet. */
     uart_write_register(uart, UART_LCR,
         (lcr & (uint8_t)~U16550_LCR_MORE_STOP_BITS) | U16550_LCR_DLAB);
     uart_write_register(uart, UART_FCR, control | U16550_FCR_FIFO_64_ENABLE);
     uart_write_register(uart, UART_LCR, lcr);
+    /*
+     * So it keeps its FIFOs of 64 here. A chip that looks at the bit always leaves them, and
+     * would do so at the next call that writes FCR: bytes that were written for them would be
+     * lost. The answer is what stays.
+     */
     uart_write_register(uart, UART_FCR, control);
+    /* IER is still 0, so this read acknowledges no interrupt. */
     bool on = uart_is_64_shown(uart_isr(uart));
     uart_write_register(uart, UART_IER, ier);
     *enabled = on;
@@ -1303,6 +1412,10 @@ uart_level_of(const struct u16550_core_driver *uart, bool on)
 static inline uint8_t uart_fcr_resetting_fifos(struct u16550_core_maybe_fifo_trigger_level level)
 {
     uint8_t resets = U16550_FCR_RX_FIFO_RESET | U16550_FCR_TX_FIFO_RESET;
+    /*
+     * Without a level the enable bit is clear. That turns the FIFOs off, and so empties them.
+     * If they were off already, a chip ignores the reset bits.
+     */
     if (level.is_some)
         return resets | U16550_FCR_FIFO_ENABLE | uart_fcr_of_trigger_level(level.value);
     return resets;
@@ -1332,9 +1445,12 @@ static inline uint8_t
 uart_enter_loopback(struct u16550_core_driver *uart,
     struct u16550_core_maybe_fifo_trigger_level level)
 {
+    /* Loopback connects the modem's inputs to the outputs. So the lines are read before. */
     uint8_t before = uart_read_msr(uart);
+    /* A handler would take the bytes that come back. */
     uart_write_register(uart, UART_IER, 0);
     uart_write_register(uart, UART_MCR, U16550_MCR_LOOP_BACK);
+    /* Bytes that were received before are gone after the reset. */
     uart->fifo_enabled = uart_set_fifo(uart, level);
     return before;
 }
@@ -1413,12 +1529,12 @@ static inline void uart_flood(struct u16550_core_driver *uart, size_t count)
  */
 static inline size_t uart_take_back(struct u16550_core_driver *uart)
 {
-    for (size_t count = 0; count < UART_FLOOD; count++) {
+    for (size_t count = 0; count < UART_FLOOD_LENGTH; count++) {
         uint8_t byte;
         if (!uart_try_receive_byte(uart, &byte))
             return count;
     }
-    return UART_FLOOD;
+    return UART_FLOOD_LENGTH;
 }
 
 /*
@@ -1460,11 +1576,16 @@ static bool uart_fifo_size_up_to(size_t characters, uint8_t *size)
  */
 static int uart_find_size(struct u16550_core_driver *uart, uint8_t *size)
 {
+    /* A byte from before would be counted. */
     if (!uart_drain_received(uart))
         return U16550_FIFOS_STALLED;
-    uart_flood(uart, UART_FLOOD);
+    uart_flood(uart, UART_FLOOD_LENGTH);
     if (!uart_wait_for(uart, U16550_LSR_TRANSMITTER_EMPTY))
         return U16550_FIFOS_STALLED;
+    /*
+     * Nothing was taken meanwhile. So the receiver's FIFO has as many as it holds, and lost the
+     * others.
+     */
     if (!uart_fifo_size_up_to(uart_take_back(uart), size))
         return U16550_FIFOS_TOO_FEW;
     return U16550_OK;
@@ -1525,12 +1646,23 @@ static void
 uart_leave_loopback(struct u16550_core_driver *uart, uint8_t mcr, uint8_t ier, uint8_t before,
     uint8_t noted)
 {
+    /*
+     * The inputs are the modem's lines again. Those that are set change by that, which is a
+     * modem status interrupt. OUT2 stays clear until the read of MSR has cleared it, and IER is
+     * still 0. Otherwise the interrupt line would rise for a moment, and a controller that
+     * detects edges would call the handler for nothing.
+     */
     uart_write_register(uart, UART_MCR, mcr & (uint8_t)~U16550_MCR_OUT_2_INT_ENABLE);
+    /*
+     * The change bits that this read clears tell what the test did. What happened to the lines
+     * is found by comparing them with those before.
+     */
     uint8_t now = uart_read_register(uart, UART_MSR);
     uart_write_register(uart, UART_MCR, mcr);
     uart_write_register(uart, UART_IER, ier);
     uint8_t changes = uart_msr_changes_since(now, before);
     uart->saved_msr |= changes;
+    /* Errors in loopback are those of the test's bytes, or of bytes that it has discarded. */
     uart->saved_lsr = noted;
 }
 
@@ -1582,6 +1714,7 @@ static int uart_find_fifo_size(struct u16550_core_driver *uart, uint8_t *size)
         return U16550_FIFOS_OFF;
     uint8_t mcr = uart_mcr(uart);
     uint8_t ier = uart_ier(uart);
+    /* A byte that is still to go out would be counted, and would never reach the remote. */
     if (!uart_wait_for(uart, U16550_LSR_TRANSMITTER_EMPTY))
         return U16550_FIFOS_STALLED;
     uint8_t noted = uart->saved_lsr;
@@ -1643,26 +1776,34 @@ uart_from_state(struct u16550_device backend, const struct uart_driver_state *st
  */
 static void uart_set_line(struct u16550_core_driver *uart, uint16_t divisor, uint8_t frame)
 {
+    /* DLAB may still be set from before. Then the write of IER would go to the divisor. */
     uart_write_register(uart, UART_LCR, 0);
+    /*
+     * Interrupts are off from here on, until the caller's last write. A handler would find a
+     * chip that is half set up, and while DLAB is set it could reach neither data nor IER.
+     */
     uart_write_register(uart, UART_IER, 0);
     uart_write_register(uart, UART_LCR, U16550_LCR_DLAB);
     uart_write_register(uart, UART_DLL, (uint8_t)divisor);
     uart_write_register(uart, UART_DLM, (uint8_t)(divisor >> 8));
+    /*
+     * The frame clears DLAB too. This write stays, since each access is one that the crate
+     * uart_16550 in Rust makes.
+     */
     uart_write_register(uart, UART_LCR, 0);
     uart_write_register(uart, UART_LCR, frame);
 }
 
 /*
- * Discards received bytes until none is available, or as many as the receiver can hold. More are
+ * Discards received bytes until none is available, at most 17, as many as a 16550 holds. More are
  * not discarded: a remote that never stops sending must not hold u16550_init for ever. What the
  * reads clear is not saved, since those errors are of bytes that nobody gets.
  *
- * Proved: received bytes are discarded until none is available, or as many as the receiver can
- * hold.
+ * Proved: received bytes are discarded until none is available, or until there were 17.
  */
 static inline void uart_drain(struct u16550_core_driver *uart)
 {
-    for (uint64_t turn = 0; turn < UART_MOST_WAITING; turn++) {
+    for (uint32_t turn = 0; turn < UART_MOST_WAITING; turn++) {
         if ((uart_read_register(uart, UART_LSR) & U16550_LSR_DATA_READY) == 0)
             return;
         uart_read_register(uart, UART_DATA);
@@ -1676,6 +1817,12 @@ static inline void uart_drain(struct u16550_core_driver *uart)
  */
 static inline void uart_finish_init(struct u16550_core_driver *uart)
 {
+    /*
+     * These reads come last, just before the interrupts are enabled: errors, changes of modem
+     * lines and a pending THR_EMPTY that were left over would interrupt at once. Some arise in
+     * u16550_init itself: the write of MCR may have ended a loopback, and that changes modem
+     * lines. The read of ISR matters on a chip that shows THR_EMPTY while IER is 0.
+     */
     uart_read_register(uart, UART_LSR);
     uart_read_register(uart, UART_ISR);
     uart_read_register(uart, UART_MSR);
@@ -1685,17 +1832,20 @@ static inline void uart_finish_init(struct u16550_core_driver *uart)
 }
 
 /*
- * Initialises the device with this configuration, whose divisor this is. This is a function of its
- * own for callers that have tested the configuration already, and so have its divisor.
+ * Initialises the device with this configuration, whose divisor this is.
  *
  * Proved: the configuration is stored, the scratch register tested, divisor, frame and FIFO are
  * set, the receiver is drained, and MCR is written; after a wait for an empty transmitter the
- * statuses are read, and IER is written. Or nothing is done, if there is no divisor; or all up to
- * the test that fails, or to the wait that reaches the limit.
+ * statuses are read, and IER is written. Or all up to the test that fails, or to the wait that
+ * reaches the limit.
  */
 static int
 uart_set_up(struct u16550_core_driver *uart, struct u16550_core_config config, uint16_t divisor)
 {
+    /*
+     * The configuration is stored first and then read in place. So it is copied once, and as a
+     * whole. A copy that is read before it is stored is copied field by field.
+     */
     uart->config = config;
     uint8_t frame = uart_lcr_of_config(&uart->config);
     struct u16550_core_maybe_fifo_trigger_level level = uart->config.fifo_trigger_level;
@@ -1703,9 +1853,19 @@ uart_set_up(struct u16550_core_driver *uart, struct u16550_core_config config, u
         return U16550_INIT_DEVICE_NOT_PRESENT;
     uart_set_line(uart, divisor, frame);
     uart->fifo_enabled = uart_set_fifo(uart, level);
+    /*
+     * FCR has emptied a FIFO. Without FIFO its reset does nothing, and an old byte would be the
+     * first of the new session. The old bytes must be gone before MCR is written: DTR and RTS
+     * tell the remote that we are ready, and what the remote sends then is not to be discarded.
+     */
     uart_drain(uart);
+    /* On a PC the gate of the interrupt line is open while OUT2 is set. */
     uart_write_register(uart, UART_MCR,
         U16550_MCR_DTR | U16550_MCR_RTS | U16550_MCR_OUT_2_INT_ENABLE);
+    /*
+     * If the wait stalls, what its polls have cleared stays saved. The drain saved nothing, and
+     * the saved bits are reset only at the end.
+     */
     if (!uart_wait_for(uart, U16550_LSR_TRANSMITTER_EMPTY))
         return U16550_INIT_STALLED;
     uart_finish_init(uart);
@@ -1757,38 +1917,16 @@ uart_set_up(struct u16550_core_driver *uart, struct u16550_core_config config, u
 static int uart_init(struct u16550_core_driver *uart, struct u16550_core_config config)
 {
     uint16_t divisor;
+    /*
+     * The divisor comes before the first access, so that a configuration which cannot be had
+     * changes nothing.
+     */
     int status =
         uart_calc_divisor(config.frequency, uart_baud_rate_bps(config.baud_rate),
         config.prescaler_division_factor, &divisor);
     if (status != U16550_OK)
         return uart_init_error_of(status);
     return uart_set_up(uart, config, divisor);
-}
-
-/*
- * Checks that a device is present, if that is asked for.
- *
- * Proved: the presence check, if it is asked for; without it a device is taken to be present.
- */
-static inline bool uart_is_present(struct u16550_core_driver *uart, bool asked)
-{
-    return !asked || uart_check_present(uart);
-}
-
-static inline bool uart_is_first(uint8_t wait)
-{
-    return wait == U16550_WAIT_FIRST;
-}
-
-/*
- * Waits until the transmitter is empty, if that is asked for.
- *
- * Proved: the wait for an empty transmitter, if it is asked for; without it the transmitter is
- * taken to be empty.
- */
-static inline bool uart_is_emptied(struct u16550_core_driver *uart, bool asked)
-{
-    return !asked || uart_wait_for(uart, U16550_LSR_TRANSMITTER_EMPTY);
 }
 
 /*
@@ -1801,12 +1939,11 @@ static inline bool uart_is_emptied(struct u16550_core_driver *uart, bool asked)
  */
 static inline void uart_set_modem_control(struct u16550_core_driver *uart, uint8_t outputs)
 {
+    /*
+     * In loopback the outputs are inactive at the pins, whatever MCR has, so the remote would
+     * not see what was asked for. The driver itself never leaves the chip in loopback.
+     */
     uart_write_register(uart, UART_MCR, outputs & (uint8_t)~U16550_MCR_LOOP_BACK);
-}
-
-static inline bool uart_is_last(uint8_t wait)
-{
-    return wait == U16550_WAIT_LAST;
 }
 
 /*
@@ -1815,8 +1952,8 @@ static inline bool uart_is_last(uint8_t wait)
  * Proved: as u16550_init, with the test, the wait and the outputs of this setup. The configuration
  * is stored; the test and the wait that is to be first are made; divisor, frame and FIFO are set,
  * the receiver is drained, and MCR is written; the wait that is to be last is made; the statuses
- * are read, and IER is written. Or nothing is done, if there is no divisor; or all up to the test
- * that fails, or to the wait that reaches the limit.
+ * are read, and IER is written. Or all up to the test that fails, or to the wait that reaches the
+ * limit.
  */
 static int
 uart_set_up_with(struct u16550_core_driver *uart, struct u16550_core_config config,
@@ -1825,15 +1962,15 @@ uart_set_up_with(struct u16550_core_driver *uart, struct u16550_core_config conf
     uart->config = config;
     uint8_t frame = uart_lcr_of_config(&uart->config);
     struct u16550_core_maybe_fifo_trigger_level level = uart->config.fifo_trigger_level;
-    if (!uart_is_present(uart, setup->checks_presence))
+    if (setup->checks_presence && !uart_check_present(uart))
         return U16550_INIT_DEVICE_NOT_PRESENT;
-    if (!uart_is_emptied(uart, uart_is_first(setup->wait)))
+    if (setup->wait == U16550_WAIT_FIRST && !uart_wait_for(uart, U16550_LSR_TRANSMITTER_EMPTY))
         return U16550_INIT_STALLED;
     uart_set_line(uart, divisor, frame);
     uart->fifo_enabled = uart_set_fifo(uart, level);
     uart_drain(uart);
     uart_set_modem_control(uart, setup->outputs);
-    if (!uart_is_emptied(uart, uart_is_last(setup->wait)))
+    if (setup->wait == U16550_WAIT_LAST && !uart_wait_for(uart, U16550_LSR_TRANSMITTER_EMPTY))
         return U16550_INIT_STALLED;
     uart_finish_init(uart);
     return U16550_OK;
@@ -1896,6 +2033,10 @@ uart_init_with(struct u16550_core_driver *uart, struct u16550_core_config config
  */
 static inline bool uart_is_gone(struct u16550_core_driver *uart)
 {
+    /*
+     * MCR, and no other register: a read of DATA, LSR, MSR or ISR changes a chip that is there
+     * after all, IER is the divisor latch under DLAB, and LCR and SPR may be FF.
+     */
     return uart_mcr(uart) == UART_UNDRIVEN;
 }
 
@@ -2028,6 +2169,7 @@ static bool uart_change_fifos(struct u16550_core_driver *uart, uint8_t action)
 static inline void uart_quiesce(struct u16550_core_driver *uart, uint8_t outputs, uint8_t fifos)
 {
     uart->config.interrupts = 0;
+    /* The interrupts come first, so that none is raised by what the outputs change. */
     uart_write_register(uart, UART_IER, 0);
     uart_set_modem_control(uart, outputs);
     uart->fifo_enabled = uart_change_fifos(uart, fifos);
@@ -2067,6 +2209,7 @@ static inline int uart_ready_to_send(struct u16550_core_driver *uart)
 {
     if ((uart_read_lsr(uart) & U16550_LSR_THR_EMPTY) == 0)
         return U16550_SEND_NO_CAPACITY;
+    /* Many cables never assert CTS, so it counts only if the configuration says so. */
     if (!uart->config.check_cts_before_sending)
         return U16550_OK;
     if (!uart_is_clear_to_send(uart))
@@ -2156,6 +2299,7 @@ static inline bool
 uart_receive_one_while(struct u16550_core_driver *uart, struct uart_patience *caller, uint8_t *byte)
 {
     uint64_t spin_limit = uart->spin_limit;
+    /* The limit bounds the wait even if the caller never has enough. */
     for (uint64_t poll = 0; poll < spin_limit; poll++) {
         if (uart_try_receive_byte(uart, byte))
             return true;
@@ -2215,6 +2359,9 @@ uart_receive_bytes_while(struct u16550_core_driver *uart, uint8_t *buffer, size_
 static inline bool
 uart_try_receive_with_errors(struct u16550_core_driver *uart, struct u16550_received *received)
 {
+    /*
+     * LSR shows the errors of the character that is the next to be read. So it is read first.
+     */
     uint8_t lsr = uart_read_lsr(uart);
     if ((lsr & U16550_LSR_DATA_READY) == 0)
         return false;
@@ -2286,6 +2433,10 @@ static void uart_restore(struct u16550_core_driver *uart, const struct u16550_du
     bool on = uart_set_fifo(uart, uart_level_of(uart, uart_isr_fifo_enabled(dump->isr)));
     uart_set_modem_control(uart, dump->mcr);
     uart_write_register(uart, UART_SPR, dump->spr);
+    /*
+     * uart_set_line has disabled all interrupts. They come back last, when a handler finds all
+     * else as it was.
+     */
     uart_write_register(uart, UART_IER, dump->ier);
     uart->fifo_enabled = on;
 }
@@ -2306,6 +2457,10 @@ static void uart_restore(struct u16550_core_driver *uart, const struct u16550_du
 static inline void uart_retrigger_interrupts(struct u16550_core_driver *uart)
 {
     uint8_t enabled = uart_read_register(uart, UART_IER);
+    /*
+     * With no interrupt enabled the output is low. What was pending stays so in the chip, and
+     * no read of ISR acknowledges it.
+     */
     uart_write_register(uart, UART_IER, 0);
     uart_write_register(uart, UART_IER, enabled);
 }
@@ -2477,6 +2632,7 @@ uart_send_bytes_exact(struct u16550_core_driver *uart, const uint8_t *bytes, siz
     size_t *stalled_at)
 {
     size_t done = 0;
+    /* Without FIFO each burst is one byte, which needs no loop of its own. */
     while (done < bytes_len) {
         size_t count;
         if (!uart_send_some(uart, &bytes[done], bytes_len - done, &count)) {
@@ -2498,6 +2654,7 @@ static inline bool
 uart_wait_to_send_while(struct u16550_core_driver *uart, struct uart_patience *patience)
 {
     uint64_t spin_limit = uart->spin_limit;
+    /* The limit bounds the wait even if the caller never has enough. */
     for (uint64_t turn = 0; turn < spin_limit; turn++) {
         if (uart_ready_to_send(uart) == U16550_OK)
             return true;
@@ -2680,6 +2837,7 @@ uart_store_frame(struct u16550_core_driver *uart, const struct u16550_core_confi
 static inline void
 uart_write_frame(struct u16550_core_driver *uart, uint16_t divisor, uint8_t frame)
 {
+    /* The frame goes in together with DLAB, so that LCR never has a third one in between. */
     uart_write_register(uart, UART_LCR, frame | U16550_LCR_DLAB);
     uart_write_register(uart, UART_DLL, (uint8_t)divisor);
     uart_write_register(uart, UART_DLM, (uint8_t)(divisor >> 8));
@@ -2749,6 +2907,7 @@ uart_set_frame_when_idle(struct u16550_core_driver *uart, const struct u16550_co
 {
     uint32_t baud_rate = uart_baud_rate_bps(config->baud_rate);
     uint16_t divisor;
+    /* The divisor comes before the wait, so that a refusal makes no access. */
     int status =
         uart_calc_divisor(config->frequency, baud_rate, config->prescaler_division_factor,
         &divisor);
@@ -2805,6 +2964,7 @@ static inline bool uart_set_trigger_level(struct u16550_core_driver *uart, uint8
         return false;
     uart->config.fifo_trigger_level.is_some = true;
     uart->config.fifo_trigger_level.value = level;
+    /* On a chip whose FIFOs are off this write would turn them on, and so empty them. */
     uart_write_register(uart, UART_FCR, uart_fcr_of_running_fifos(level));
     return true;
 }
@@ -2847,8 +3007,9 @@ static struct uart_driver_state uart_state(const struct u16550_core_driver *uart
  */
 static inline int uart_try_send_byte(struct u16550_core_driver *uart, uint8_t byte)
 {
-    if (uart_send_bytes(uart, &byte, 1) == 0)
+    if (uart_ready_to_send(uart) != U16550_OK)
         return U16550_SEND_NO_CAPACITY;
+    uart_write_byte(uart, byte);
     return U16550_OK;
 }
 
@@ -3007,6 +3168,10 @@ uart_test_loopback(struct u16550_core_driver *uart, struct uart_loopback_failure
 {
     uint8_t mcr = uart_mcr(uart);
     uint8_t ier = uart_ier(uart);
+    /*
+     * A byte that is still to go out would come back among those of the test, and would never
+     * reach the remote.
+     */
     if (!uart_wait_for(uart, U16550_LSR_TRANSMITTER_EMPTY))
         return U16550_LOOPBACK_STALLED;
     uint8_t noted = uart->saved_lsr;
@@ -3093,22 +3258,15 @@ static inline int uart_write_ready(struct u16550_core_driver *uart, bool *ready)
 }
 
 /*
- * Sends the bytes one by one, and waits for room before each.
+ * Waits for room, and sends a byte.
  *
- * Proved: these bytes, one by one: all of them, or a beginning.
+ * Proved: a wait for room, and then the byte is written; or as many misses as the limit.
  */
-static int
-uart_send_singly(struct u16550_core_driver *uart, const uint8_t *bytes, size_t bytes_len,
-    size_t *stalled_at)
+static inline int uart_send_one(struct u16550_core_driver *uart, uint8_t byte)
 {
-    for (size_t done = 0; done < bytes_len; done++) {
-        uint8_t byte = bytes[done];
-        if (!uart_wait_to_send(uart)) {
-            *stalled_at = done;
-            return U16550_STALLED;
-        }
-        uart_write_byte(uart, byte);
-    }
+    if (!uart_wait_to_send(uart))
+        return U16550_STALLED;
+    uart_write_byte(uart, byte);
     return U16550_OK;
 }
 
@@ -3141,6 +3299,26 @@ static struct uart_expansion uart_tty_expand(uint8_t byte)
 }
 
 /*
+ * Sends the bytes one by one, and waits for room before each.
+ *
+ * Proved: these bytes, one by one: all of them, or a beginning.
+ */
+static int
+uart_send_singly(struct u16550_core_driver *uart, const uint8_t *bytes, size_t bytes_len,
+    size_t *stalled_at)
+{
+    for (size_t done = 0; done < bytes_len; done++) {
+        uint8_t byte = bytes[done];
+        if (!uart_wait_to_send(uart)) {
+            *stalled_at = done;
+            return U16550_STALLED;
+        }
+        uart_write_byte(uart, byte);
+    }
+    return U16550_OK;
+}
+
+/*
  * Sends the expansion of a byte, and returns its length. Printable bytes have a branch of their
  * own, since most bytes of a text are printable, and that branch is short.
  *
@@ -3150,8 +3328,10 @@ static int
 uart_tty_send_expansion(struct uart_tty *tty, uint8_t byte, size_t *count, size_t *stalled_at)
 {
     if (byte >= ' ' && byte < 0x7f) {
-        if (uart_send_singly(&tty->inner, &byte, 1, stalled_at) != U16550_OK)
+        if (uart_send_one(&tty->inner, byte) != U16550_OK) {
+            *stalled_at = 0;
             return U16550_STALLED;
+        }
         *count = 1;
         return U16550_OK;
     }
@@ -3180,6 +3360,10 @@ uart_tty_write_raw_text(struct uart_tty *tty, const uint8_t *text, size_t text_l
     size_t *stalled_at)
 {
     size_t done = 0;
+    /*
+     * An expansion may be three times as long as its text. So its length need not fit into a
+     * size_t, and the count of a stall ends at the largest one.
+     */
     for (size_t i = 0; i < text_len; i++) {
         size_t count;
         size_t sent;
@@ -3247,7 +3431,7 @@ uart_kept_characters_pop(struct u16550_core_kept_characters *kept_characters,
     if (kept_characters->count == 0)
         return false;
     struct u16550_received first = kept_characters->cells.bytes[0];
-    uart_first_to_last(kept_characters->cells.bytes, UART_KEPT);
+    uart_first_to_last(kept_characters->cells.bytes, UART_MOST_KEPT);
     kept_characters->count--;
     *received = first;
     return true;
@@ -3390,12 +3574,12 @@ static inline bool uart_design_ware_end_timeout(struct u16550_core_design_ware *
 static inline bool
 uart_design_ware_end_interrupt(struct u16550_core_design_ware *design_ware, uint8_t isr)
 {
-    uint8_t cause = isr & UART_CAUSE;
-    if (cause == UART_BUSY_DETECT) {
+    uint8_t cause = isr & UART_CODE;
+    if (cause == UART_CODE_BUSY_DETECT) {
         uart_design_ware_read_usr(design_ware);
         return true;
     }
-    if (cause == UART_TIMEOUT)
+    if (cause == UART_CODE_TIMEOUT)
         return uart_design_ware_end_timeout(design_ware);
     return false;
 }
@@ -3408,8 +3592,8 @@ uart_design_ware_isr_with_kept(const struct u16550_core_design_ware *design_ware
 {
     bool is_kept = design_ware->kept.count != 0 &&
         (design_ware->interrupts & U16550_IER_DATA_READY) != 0;
-    if ((isr & UART_CAUSE) == UART_SERVING_NONE && is_kept)
-        return (isr & (uint8_t)~UART_CAUSE) | UART_SERVING_DATA;
+    if ((isr & UART_CODE) == UART_CODE_NONE && is_kept)
+        return (isr & (uint8_t)~UART_CODE) | UART_CODE_DATA_READY;
     return isr;
 }
 
@@ -3446,14 +3630,14 @@ uart_design_ware_begin_fault(struct u16550_core_design_ware *design_ware, uint8_
  */
 static uint8_t uart_design_ware_read_isr(struct u16550_core_design_ware *design_ware)
 {
-    uint8_t isr = UART_SERVING_NONE;
-    for (uint64_t round = 0; round < UART_ROUNDS; round++) {
+    uint8_t isr = UART_CODE_NONE;
+    for (uint32_t round = 0; round < UART_MOST_ENDED; round++) {
         isr = uart_design_ware_load(design_ware, UART_ISR);
         if (!uart_design_ware_end_interrupt(design_ware, isr))
             return uart_design_ware_isr_with_kept(design_ware, isr);
     }
     uart_design_ware_begin_fault(design_ware, U16550_DESIGN_WARE_INTERRUPT);
-    return (isr & (uint8_t)~UART_CAUSE) | UART_SERVING_NONE;
+    return (isr & (uint8_t)~UART_CODE) | UART_CODE_NONE;
 }
 
 /*
@@ -3555,6 +3739,7 @@ uart_design_ware_write_fifo_control(struct u16550_core_design_ware *design_ware,
     uart_design_ware_empty_kept(design_ware, control);
     design_ware->fifo_control =
         control & (uint8_t)~(U16550_FCR_RX_FIFO_RESET | U16550_FCR_TX_FIFO_RESET);
+    /* The bits that reset do not stay. */
     uart_design_ware_store(design_ware, UART_FCR, control);
 }
 
@@ -3565,7 +3750,7 @@ uart_design_ware_write_fifo_control(struct u16550_core_design_ware *design_ware,
  */
 static inline bool uart_design_ware_is_busy(struct u16550_core_design_ware *design_ware)
 {
-    return (uart_design_ware_read_usr(design_ware) & UART_BUSY) != 0;
+    return (uart_design_ware_read_usr(design_ware) & UART_USR_BUSY) != 0;
 }
 
 /*
@@ -3590,6 +3775,7 @@ static inline bool uart_design_ware_takes(struct u16550_core_design_ware *design
 {
     if (uart_design_ware_is_busy(design_ware))
         return false;
+    /* A character may begin after the look at USR, and then the write is ignored. */
     return uart_design_ware_tries(design_ware, line);
 }
 
@@ -3637,7 +3823,7 @@ uart_kept_characters_keep(struct u16550_core_kept_characters *kept_characters,
  */
 static void uart_design_ware_keep_waiting(struct u16550_core_design_ware *design_ware)
 {
-    while (design_ware->kept.count != UART_KEPT) {
+    while (design_ware->kept.count != UART_MOST_KEPT) {
         if ((uart_design_ware_look(design_ware) & U16550_LSR_DATA_READY) == 0)
             return;
         uint8_t errors = design_ware->cleared;
@@ -3677,6 +3863,7 @@ static void uart_design_ware_write_line(struct u16550_core_design_ware *design_w
         uart_design_ware_make_room(design_ware);
     }
     uart_design_ware_begin_fault(design_ware, U16550_DESIGN_WARE_LINE_CONTROL);
+    /* The last write may have been ignored, which interrupts. */
     uart_design_ware_read_usr(design_ware);
 }
 
@@ -3743,7 +3930,7 @@ static inline struct u16550_core_kept_characters uart_kept_characters_new(void)
 {
     struct u16550_received received = { 0, 0 };
     struct u16550_core_kept_characters kept_characters;
-    for (size_t place = 0; place < UART_KEPT; place++)
+    for (size_t place = 0; place < UART_MOST_KEPT; place++)
         kept_characters.cells.bytes[place] = received;
     kept_characters.count = 0;
     return kept_characters;
@@ -3796,6 +3983,10 @@ static bool uart_handle_line(struct uart_line_ports *ports, size_t limit, uint32
         bool was_served = uart_line_ports_lower(ports, port, limit, rounds);
         has_served = has_served || was_served;
     }
+    /*
+     * All lines are low here, at one time. It is not enough that each was low at some time:
+     * another one may have risen before, and the common line has then not fallen.
+     */
     for (size_t port = 0; port < number; port++)
         uart_line_ports_raise(ports, port);
     return has_served;
@@ -3900,6 +4091,7 @@ uart_copy(const uint8_t *bytes, size_t bytes_len, uint8_t *slots, size_t slots_l
 {
     size_t room = slots_len - place;
     size_t count = room < bytes_len ? room : bytes_len;
+    /* Mostly all bytes are in one piece. The second copy would be a call for nothing. */
     if (count > 0)
         uart_copy_bytes(&slots[place], bytes, count);
     return count;
@@ -3996,6 +4188,10 @@ uart_ring_may_send(const struct u16550_core_ring *ring, struct uart_receive_mark
 {
     size_t byte_queue_capacity = uart_byte_queue_capacity(&ring->receive);
     size_t room = byte_queue_capacity - ring->receive.len;
+    /*
+     * The first test comes first, so that marks the wrong way round do not let bytes come for
+     * which there is no room.
+     */
     if (room < marks.hold) {
         *may = false;
         return true;
@@ -4021,6 +4217,10 @@ static inline uint8_t uart_with_rts(uint8_t mcr, bool on)
  */
 static inline void uart_ring_make_rts(struct u16550_core_ring *ring, bool on)
 {
+    /*
+     * A handler adjusts RTS each time that it runs, and RTS changes seldom. So one read shows
+     * most times that there is nothing to write, where u16550_set_rts would also write.
+     */
     uint8_t mcr = uart_mcr(&ring->uart);
     if (((mcr & U16550_MCR_RTS) != 0) != on) {
         uint8_t with_rts = uart_with_rts(mcr, on);
@@ -4081,6 +4281,10 @@ static inline size_t uart_ring_send_sendable(struct u16550_core_ring *ring)
         return 0;
     struct uart_slices slices =
         uart_byte_queue_front_parts(&ring->transmit, ring->is_held ? 0 : ring->transmit.len);
+    /*
+     * In the ring the bytes may be in two parts, and the urgent byte is in none of them. They
+     * are one burst, after one look, all the same.
+     */
     return uart_send_gathered(&ring->uart, ring->urgent, slices.front.data, slices.front.len,
         slices.rest.data, slices.rest.len);
 }
@@ -4289,6 +4493,9 @@ static inline size_t uart_ring_clear_transmit(struct u16550_core_ring *ring)
 static inline void uart_ring_resume_transmit(struct u16550_core_ring *ring)
 {
     bool has_urgent = ring->urgent.is_some;
+    /*
+     * A pump, and not THR_EMPTY switched off and on: some devices raise no interrupt for that.
+     */
     if (has_urgent || !uart_byte_queue_is_empty(&ring->transmit))
         uart_ring_pump(ring);
 }
@@ -4313,6 +4520,11 @@ static inline void uart_ring_resume_transmit(struct u16550_core_ring *ring)
 static inline struct u16550_dump uart_ring_config_register_dump(struct u16550_core_ring *ring)
 {
     struct u16550_dump dump = uart_config_register_dump(&ring->uart);
+    /*
+     * Behind the dump, since what it acknowledges never comes again. A u16550_ring_retrigger
+     * would raise the interrupt again on a chip that does so whenever THR_EMPTY is enabled
+     * while THR is empty; to send what waits needs nothing of the chip.
+     */
     uart_ring_resume_transmit(ring);
     return dump;
 }
@@ -4361,6 +4573,7 @@ uart_copy_noted(const struct u16550_core_byte_queue *bytes,
     const struct u16550_core_byte_queue *noted, struct u16550_received *slots, size_t slots_len,
     size_t *count, size_t *unnoted)
 {
+    /* Without this, errors would stand at other bytes, and nobody could tell. */
     if (noted->len < bytes->len) {
         *unnoted = bytes->len - noted->len;
         return U16550_RING_UNNOTED;
@@ -4479,11 +4692,16 @@ uart_byte_queue_receive_from(struct u16550_core_byte_queue *byte_queue,
 {
     size_t front = byte_queue->front;
     size_t len = byte_queue->len;
+    /*
+     * The driver writes the free cells themselves, however large the FIFO is: a copy would need
+     * as large a buffer on the stack.
+     */
     size_t behind = uart_cell_behind(front, len, uart_byte_queue_capacity(byte_queue));
     uint8_t *cells = byte_queue->cells.data;
     size_t to_end = byte_queue->cells.len - behind;
     size_t some = to_end < slots ? to_end : slots;
     size_t before = uart_receive(uart, cells, behind, some);
+    /* The free cells go on at the first one, if all up to the last one were needed. */
     size_t count = before + uart_receive(uart, cells, 0, before == some ? slots - some : 0);
     byte_queue->len += count;
     return count;
@@ -4731,7 +4949,15 @@ static bool
 uart_ring_look_once_more(struct u16550_core_ring *ring, struct u16550_core_stuck_error *why)
 {
     struct u16550_core_stuck_error reason;
+    /*
+     * This read may acknowledge a THR_EMPTY interrupt, which is then not served. The chip is
+     * stuck in that case, and a u16550_ring_restart sends what waits.
+     */
     if (uart_stuck_reason(uart_isr(&ring->uart), &reason)) {
+        /*
+         * All eight bits, and not only those of the interrupts that are served here: some chips
+         * have more. Without them IER is 0.
+         */
         uart_disable_interrupts(&ring->uart, UART_ALL_INTERRUPTS);
         ring->rounds = 0;
         ring->stuck.is_some = true;
@@ -4847,6 +5073,10 @@ uart_ring_try_handle(struct u16550_core_ring *ring, size_t limit, uint32_t round
 {
     if (ring->stuck.is_some) {
         struct u16550_core_stuck_error stuck = ring->stuck.value;
+        /*
+         * A u16550_ring_take that ended a pause has enabled DATA_READY again, or another device
+         * on the line has interrupted.
+         */
         uart_disable_interrupts(&ring->uart, UART_ALL_INTERRUPTS);
         *error = stuck;
         return stuck.kind;
@@ -4873,7 +5103,14 @@ uart_ring_lower_line(struct u16550_core_ring *ring, size_t limit, uint32_t round
 {
     struct uart_handled_or_stuck_error handled;
     handled.error.kind = uart_ring_try_handle(ring, limit, rounds, &handled.value, &handled.error);
+    /*
+     * IER is read after the interrupt was handled: what a pump or a pause has changed stays so.
+     */
     uint8_t enabled = uart_ier(&ring->uart);
+    /*
+     * All eight bits, as in u16550_ring_try_handle: without them IER is 0, and the chip's line
+     * is low whatever happens to it.
+     */
     uart_disable_interrupts(&ring->uart, UART_ALL_INTERRUPTS);
     struct uart_lowered lowered = { handled, enabled };
     return lowered;
@@ -5106,6 +5343,11 @@ static inline void uart_ring_restart(struct u16550_core_ring *ring, uint8_t inte
  */
 static inline size_t uart_ring_service(struct u16550_core_ring *ring)
 {
+    /*
+     * The number does not tell whether an interrupt without a name is left, and if the line
+     * stays high no edge comes. So this call is for programs that poll, and u16550_ring_handle
+     * for handlers.
+     */
     return uart_ring_serve_up_to(ring, UART_MAX_INTERRUPTS).served;
 }
 
@@ -5326,6 +5568,11 @@ uart_direction_turned(struct u16550_core_direction direction, bool sends, uint8_
         mcr = outputs | uart_direction_bit(direction);
     else
         mcr = outputs & (uint8_t)~uart_direction_bit(direction);
+    /*
+     * A chip whose flow control is on clears RTS once its FIFO has as many characters as its
+     * trigger level. It would give the bus away in the middle of a message whose echo is not
+     * yet read. Firmware, or a driver before this one, may have left it on.
+     */
     return mcr & (uint8_t)~uart_direction_flow(direction);
 }
 
@@ -5360,6 +5607,10 @@ static inline void uart_half_duplex_turn(struct u16550_core_half_duplex *half_du
  */
 static inline bool uart_half_duplex_try_finish(struct u16550_core_half_duplex *half_duplex)
 {
+    /*
+     * The look is part of the call that switches. A look of an earlier call would tell nothing
+     * of bytes that were sent after it.
+     */
     if (!uart_is_idle(&half_duplex->uart))
         return false;
     uart_half_duplex_turn(half_duplex, false);
@@ -5720,24 +5971,18 @@ uart_multiply_divide(uint64_t value, uint32_t times, uint32_t per, uint32_t more
     if (per == 0)
         return false;
     uint64_t quotient = uart_quotient_64(value, per);
-    struct uart_maybe_u64 whole;
-    if (times == 0) {
-        whole.is_some = true;
-        whole.value = 0;
-    } else if (quotient <= uart_quotient_64(UART_MOST_64, times)) {
-        whole.is_some = true;
-        whole.value = uart_product_64(quotient, times);
-    } else {
-        whole.is_some = false;
-        whole.value = 0;
-    }
-    if (!whole.is_some)
+    uint64_t product;
+    if (times == 0)
+        product = 0;
+    else if (quotient <= uart_quotient_64(UART_MOST_64, times))
+        product = uart_product_64(quotient, times);
+    else
         return false;
     uint64_t part =
         uart_quotient_64(uart_product_64(uart_rest_64(value, per), times) + (uint64_t)more, per);
-    if (UART_MOST_64 - part < whole.value)
+    if (UART_MOST_64 - part < product)
         return false;
-    *result = whole.value + part;
+    *result = product + part;
     return true;
 }
 
@@ -6108,20 +6353,20 @@ static uint8_t uart_interrupt_type_to_bits(uint8_t interrupt_type)
 {
     switch (interrupt_type) {
     case U16550_CORE_INTERRUPT_TYPE_RECEIVER_LINE_STATUS:
-        return 6;
+        return UART_CODE_LINE_STATUS;
     case U16550_CORE_INTERRUPT_TYPE_RECEIVED_DATA_READY:
-        return 4;
+        return UART_CODE_DATA_READY;
     case U16550_CORE_INTERRUPT_TYPE_RECEPTION_TIMEOUT:
-        return 12;
+        return UART_CODE_TIMEOUT;
     case U16550_CORE_INTERRUPT_TYPE_TRANSMITTER_HOLDING_REGISTER_EMPTY:
-        return 2;
+        return UART_CODE_THR_EMPTY;
     case U16550_CORE_INTERRUPT_TYPE_MODEM_STATUS:
-        return 0;
+        return UART_CODE_MODEM_STATUS;
     case U16550_CORE_INTERRUPT_TYPE_DMA_RECEPTION_END_OF_TRANSFER:
-        return 14;
+        return UART_CODE_DMA_RX_END;
     case U16550_CORE_INTERRUPT_TYPE_DMA_TRANSMISSION_END_OF_TRANSFER:
     default:
-        return 10;
+        return UART_CODE_DMA_TX_END;
     }
 }
 
@@ -6181,20 +6426,11 @@ UART_ALIGNMENT(u16, uint16_t);
 #define UART_USABLE(at, name) uart_usable(at, offsetof(struct uart_aligned_##name, value))
 #define UART_ALIGNED(at, name) uart_aligned(at, offsetof(struct uart_aligned_##name, value))
 
-/* This number if something holds, else that of no error. */
-static inline int uart_if(bool holds, int status)
-{
-    return holds ? status : U16550_OK;
-}
-
-static inline int uart_unless(bool holds, int status)
-{
-    return holds ? U16550_OK : status;
-}
-
 static inline int uart_aligned(const void *at, size_t alignment)
 {
-    return uart_unless(((uintptr_t)at & (alignment - 1)) == 0, U16550_MISALIGNED);
+    if (((uintptr_t)at & (alignment - 1)) != 0)
+        return U16550_MISALIGNED;
+    return U16550_OK;
 }
 
 /* Refuses a pointer that is null or not aligned. */
@@ -6203,7 +6439,10 @@ static int uart_usable(const void *at, size_t alignment)
     return at == NULL ? U16550_NULL_POINTER : uart_aligned(at, alignment);
 }
 
-/* Refuses an array that cannot be: of items of this size, of which so many are half of all memory. One of none may be anywhere. */
+/*
+ * Refuses an array that cannot be: a pointer that is null or not aligned, more items than half of all memory holds, or an end behind that of
+ * memory. An array of no items may have any pointer.
+ */
 static int uart_items(const void *at, size_t len, size_t item, size_t half, size_t alignment)
 {
     uintptr_t start = (uintptr_t)at;
@@ -6218,7 +6457,7 @@ static int uart_items(const void *at, size_t len, size_t item, size_t half, size
     return U16550_OK;
 }
 
-/* The same. A compiler divides. */
+/* The same for items of a constant size: how many half of all memory holds is computed by the compiler. */
 #define uart_array(at, len, item, alignment) uart_items(at, len, item, (SIZE_MAX / 2) / (item), alignment)
 
 /* Begins a call over a driver, unless there is none or a call over it is not done. */
@@ -6264,7 +6503,9 @@ static inline int uart_leave(struct u16550 *uart, int status)
 
 static int uart_check_flag(uint8_t byte)
 {
-    return uart_unless(byte <= 1, U16550_BAD_CODE);
+    if (byte > 1)
+        return U16550_BAD_CODE;
+    return U16550_OK;
 }
 
 static int uart_decode_fifo_trigger_level(uint8_t from, uint8_t *to)
@@ -6379,22 +6620,30 @@ static uint16_t uart_encode_fifo_size(uint8_t from)
 
 static int uart_check_parity(uint8_t parity)
 {
-    return uart_unless(parity <= U16550_PARITY_FORCED_0, U16550_BAD_CODE);
+    if (parity > U16550_PARITY_FORCED_0)
+        return U16550_BAD_CODE;
+    return U16550_OK;
 }
 
 static int uart_check_transmitter_wait(uint8_t transmitter_wait)
 {
-    return uart_unless(transmitter_wait <= U16550_WAIT_NEVER, U16550_BAD_CODE);
+    if (transmitter_wait > U16550_WAIT_NEVER)
+        return U16550_BAD_CODE;
+    return U16550_OK;
 }
 
 static int uart_check_fifo_action(uint8_t fifo_action)
 {
-    return uart_unless(fifo_action <= U16550_FIFOS_DISABLE, U16550_BAD_CODE);
+    if (fifo_action > U16550_FIFOS_DISABLE)
+        return U16550_BAD_CODE;
+    return U16550_OK;
 }
 
 static int uart_check_direction_line(uint8_t direction_line)
 {
-    return uart_unless(direction_line <= U16550_DIRECTION_DTR, U16550_BAD_CODE);
+    if (direction_line > U16550_DIRECTION_DTR)
+        return U16550_BAD_CODE;
+    return U16550_OK;
 }
 
 /* --------------------------------------------------------------- data of the header as those of the driver, and back */
@@ -6441,7 +6690,9 @@ static int uart_decode_computable(const struct u16550_config *from, struct u1655
         status = uart_decode_config(from, to);
     if (status != U16550_OK)
         return status;
-    return uart_unless(uart_config_is_computable(to), U16550_NOT_COMPUTABLE);
+    if (!uart_config_is_computable(to))
+        return U16550_NOT_COMPUTABLE;
+    return U16550_OK;
 }
 
 static void uart_encode_config(const struct u16550_core_config *from, struct u16550_config *to)
@@ -6532,7 +6783,9 @@ static int uart_decode_urgent(const uint8_t *from, struct u16550_core_maybe_u8 *
 
 int u16550_check_layout(uint32_t first, uint32_t second, uint32_t third)
 {
-    return uart_unless(first == U16550_LAYOUT && second == U16550_LAYOUT && third == U16550_LAYOUT, U16550_OTHER_LAYOUT);
+    if (first != U16550_LAYOUT || second != U16550_LAYOUT || third != U16550_LAYOUT)
+        return U16550_OTHER_LAYOUT;
+    return U16550_OK;
 }
 
 /* Refuses functions that are not there. */
@@ -6595,7 +6848,9 @@ static int uart_check_place(uintptr_t base, uint8_t stride)
         return U16550_BAD_BASE;
     if (stride == 0 || (stride & (stride - 1)) != 0)
         return U16550_BAD_STRIDE;
-    return uart_if(base > UINTPTR_MAX - uart_distance(UART_SPR, stride), U16550_BAD_BASE);
+    if (base > UINTPTR_MAX - uart_distance(UART_SPR, stride))
+        return U16550_BAD_BASE;
+    return U16550_OK;
 }
 
 int (u16550_new)(struct u16550 *uart, const struct u16550_io *io)
@@ -6605,7 +6860,10 @@ int (u16550_new)(struct u16550 *uart, const struct u16550_io *io)
 
 int (u16550_new_port)(struct u16550 *uart, const struct u16550_io *io, uint16_t base)
 {
-    return uart_make(uart, io, base, 1, uart_if(base > UINT16_MAX - UART_SPR, U16550_BAD_BASE));
+    int refused = U16550_OK;
+    if (base > UINT16_MAX - UART_SPR)
+        refused = U16550_BAD_BASE;
+    return uart_make(uart, io, base, 1, refused);
 }
 
 int (u16550_new_mmio)(struct u16550 *uart, const struct u16550_io *io, uintptr_t base, uint8_t stride)
@@ -6697,19 +6955,23 @@ int u16550_check_configured(struct u16550 *uart, uint8_t outputs, struct u16550_
 /* Brings the chip into a state in which text goes out. */
 static int uart_take_over(struct u16550_core_driver *uart)
 {
-    const uint8_t no_text = U16550_LCR_DLAB | U16550_LCR_SET_BREAK;
-    uint8_t kept, lcr = uart_lcr(uart);
-    for (uint64_t writes = 0; writes < uart->spin_limit && (lcr & no_text) != 0; writes++) {
-        uart_device_write(&uart->backend, UART_LCR, (uint8_t)(lcr & ~no_text));
+    const uint8_t blocking = U16550_LCR_DLAB | U16550_LCR_SET_BREAK;
+    uint8_t lcr = uart_lcr(uart);
+    uint8_t kept;
+    /* A UART of DesignWare takes no new LCR while it is busy. */
+    for (uint64_t writes = 0; writes < uart->spin_limit && (lcr & blocking) != 0; writes++) {
+        uart_device_write(&uart->backend, UART_LCR, (uint8_t)(lcr & ~blocking));
         lcr = uart_lcr(uart);
     }
-    if ((lcr & no_text) != 0)
+    if ((lcr & blocking) != 0)
         return U16550_ATTACH_DIVISOR_LATCH_OPEN;
     uart_device_write(&uart->backend, UART_IER, 0);
     /* The other outputs stay: loopback and a flow control by the chip would hold text back. */
     kept = uart_mcr(uart) & (U16550_MCR_OUT_1 | U16550_MCR_OUT_2_INT_ENABLE);
     uart_set_modem_control(uart, kept | U16550_MCR_DTR | U16550_MCR_RTS);
-    return uart_if((uart_mcr(uart) & U16550_MCR_LOOP_BACK) != 0, U16550_ATTACH_LOOPBACK);
+    if ((uart_mcr(uart) & U16550_MCR_LOOP_BACK) != 0)
+        return U16550_ATTACH_LOOPBACK;
+    return U16550_OK;
 }
 
 int u16550_emergency(struct u16550 *uart)
@@ -6986,7 +7248,7 @@ int u16550_write_raw_text(struct u16550 *uart, const char *text, size_t len, siz
 #elif defined(__s390x__)
 #define U16550_BARRIER() __asm__ __volatile__("bcr 15, 0" : : : "memory")
 #elif defined(__i386__) || defined(__x86_64__) || defined(__arm__) || defined(__aarch64__) || defined(__AVR__) || defined(__MSP430__) || \
-    defined(_M_IX86) || defined(_M_X64)
+    defined(_M_IX86) || defined(_M_X64) || defined(__SDCC)
 #define U16550_BARRIER() UART_FENCE()
 #elif defined(__GNUC__)
 #define U16550_BARRIER() __sync_synchronize()
@@ -7094,7 +7356,9 @@ static int uart_check_memory_layout(uintptr_t base, const struct u16550_layout *
         return U16550_STRIDE_TOO_SMALL;
     if ((base & (bytes - 1U)) != 0)
         return U16550_MISALIGNED_BASE;
-    return uart_if(base > UINTPTR_MAX - uart_distance(last, layout->stride), U16550_BAD_BASE);
+    if (base > UINTPTR_MAX - uart_distance(last, layout->stride))
+        return U16550_BAD_BASE;
+    return U16550_OK;
 }
 #endif
 
@@ -7397,7 +7661,9 @@ int u16550_bus_try_finish(struct u16550_bus *bus)
     int status = uart_enter_bus(bus);
     if (status != U16550_OK)
         return status;
-    return uart_leave_bus(bus, uart_unless(uart_half_duplex_try_finish(&bus->bus), U16550_BUS_BUSY));
+    if (!uart_half_duplex_try_finish(&bus->bus))
+        status = U16550_BUS_BUSY;
+    return uart_leave_bus(bus, status);
 }
 
 int u16550_bus_flush(struct u16550_bus *bus)
@@ -7455,7 +7721,8 @@ int u16550_bus_send_bytes(struct u16550_bus *bus, const uint8_t *buffer, size_t 
     status = uart_array(buffer, len, 1, 1);
     if (status != U16550_OK)
         return uart_leave_bus(bus, status);
-    status = uart_unless(uart_half_duplex_send_bytes(&bus->bus, buffer, len, &sent), U16550_BUS_NOT_SENDING);
+    if (!uart_half_duplex_send_bytes(&bus->bus, buffer, len, &sent))
+        status = U16550_BUS_NOT_SENDING;
     uart_leave_bus(bus, status);
     if (status == U16550_OK)
         *count = sent;
@@ -7545,9 +7812,7 @@ int u16550_get_state(struct u16550 *uart, struct u16550_state *state)
 int u16550_fifo_enabled(struct u16550 *uart, uint8_t *enabled)
 {
     uint8_t found;
-    int status = uart_if(enabled == NULL, U16550_NULL_POINTER);
-    if (status == U16550_OK)
-        status = uart_enter(uart);
+    int status = enabled == NULL ? U16550_NULL_POINTER : uart_enter(uart);
     if (status != U16550_OK)
         return status;
     found = uart_fifo_enabled(&uart->ring.uart);
@@ -7575,7 +7840,8 @@ int u16550_set_spin_limit(struct u16550 *uart, uint64_t limit)
     int status = uart_enter(uart);
     if (status != U16550_OK)
         return status;
-    status = uart_if(limit == 0, U16550_ZERO_LIMIT);
+    if (limit == 0)
+        status = U16550_ZERO_LIMIT;
     if (status != U16550_OK)
         return uart_leave(uart, status);
     uart_set_spin_limit(&uart->ring.uart, limit);
@@ -7585,9 +7851,7 @@ int u16550_set_spin_limit(struct u16550 *uart, uint64_t limit)
 int u16550_fifo_size(struct u16550 *uart, uint16_t *fifo_size)
 {
     uint16_t found;
-    int status = uart_if(fifo_size == NULL, U16550_NULL_POINTER);
-    if (status == U16550_OK)
-        status = uart_enter(uart);
+    int status = fifo_size == NULL ? U16550_NULL_POINTER : uart_enter(uart);
     if (status != U16550_OK)
         return status;
     found = uart_encode_fifo_size(uart_fifo_size(&uart->ring.uart));
@@ -7639,8 +7903,8 @@ int u16550_handler_budget(const struct u16550_config *config, uint16_t fifo_size
     if (status != U16550_OK)
         return status;
     status = uart_config_handler_budget(&decoded, size, access_clocks, before_clocks, &found_clocks);
-    if (status == U16550_OK)
-        status = uart_unless(found_clocks.is_some, U16550_TIME_NOTHING_LEFT);
+    if (status == U16550_OK && !found_clocks.is_some)
+        status = U16550_TIME_NOTHING_LEFT;
     if (status == U16550_OK)
         *clocks = found_clocks.value;
     return status;
@@ -7708,8 +7972,8 @@ int u16550_spin_limit_for(const struct u16550_config *config, uint16_t fifo_size
     if (status != U16550_OK)
         return status;
     status = uart_config_spin_limit_for(&decoded, size, access_clocks, &found_limit);
-    if (status == U16550_OK)
-        status = uart_unless(found_limit.is_some, U16550_TIME_NO_LIMIT);
+    if (status == U16550_OK && !found_limit.is_some)
+        status = U16550_TIME_NO_LIMIT;
     if (status == U16550_OK)
         *limit = found_limit.value;
     return status;
@@ -7725,7 +7989,8 @@ int u16550_nanoseconds_within(const struct u16550_config *config, uint64_t clock
         status = uart_decode_computable(config, &decoded);
     if (status != U16550_OK)
         return status;
-    status = uart_unless(uart_config_nanoseconds_within(&decoded, clocks, &found_nanoseconds), U16550_TIME_OUT_OF_RANGE);
+    if (!uart_config_nanoseconds_within(&decoded, clocks, &found_nanoseconds))
+        status = U16550_TIME_OUT_OF_RANGE;
     if (status == U16550_OK)
         *nanoseconds = found_nanoseconds;
     return status;
@@ -7741,7 +8006,8 @@ int u16550_nanoseconds_covering(const struct u16550_config *config, uint64_t clo
         status = uart_decode_computable(config, &decoded);
     if (status != U16550_OK)
         return status;
-    status = uart_unless(uart_config_nanoseconds_covering(&decoded, clocks, &found_nanoseconds), U16550_TIME_OUT_OF_RANGE);
+    if (!uart_config_nanoseconds_covering(&decoded, clocks, &found_nanoseconds))
+        status = U16550_TIME_OUT_OF_RANGE;
     if (status == U16550_OK)
         *nanoseconds = found_nanoseconds;
     return status;
@@ -7756,7 +8022,8 @@ int u16550_clocks_within(const struct u16550_config *config, uint64_t nanosecond
         status = uart_decode_computable(config, &decoded);
     if (status != U16550_OK)
         return status;
-    status = uart_unless(uart_config_clocks_within(&decoded, nanoseconds, &found_clocks), U16550_TIME_OUT_OF_RANGE);
+    if (!uart_config_clocks_within(&decoded, nanoseconds, &found_clocks))
+        status = U16550_TIME_OUT_OF_RANGE;
     if (status == U16550_OK)
         *clocks = found_clocks;
     return status;
@@ -7772,7 +8039,8 @@ int u16550_clocks_covering(const struct u16550_config *config, uint64_t nanoseco
         status = uart_decode_computable(config, &decoded);
     if (status != U16550_OK)
         return status;
-    status = uart_unless(uart_config_clocks_covering(&decoded, nanoseconds, &found_clocks), U16550_TIME_OUT_OF_RANGE);
+    if (!uart_config_clocks_covering(&decoded, nanoseconds, &found_clocks))
+        status = U16550_TIME_OUT_OF_RANGE;
     if (status == U16550_OK)
         *clocks = found_clocks;
     return status;
@@ -7782,9 +8050,7 @@ int u16550_clocks_covering(const struct u16550_config *config, uint64_t nanoseco
 int u16550_check_present(struct u16550 *uart, uint8_t *present)
 {
     uint8_t found;
-    int status = uart_if(present == NULL, U16550_NULL_POINTER);
-    if (status == U16550_OK)
-        status = uart_enter(uart);
+    int status = present == NULL ? U16550_NULL_POINTER : uart_enter(uart);
     if (status != U16550_OK)
         return status;
     found = uart_check_present(&uart->ring.uart);
@@ -7826,9 +8092,7 @@ int u16550_init_with(struct u16550 *uart, const struct u16550_config *config,
 int u16550_find_fifo_size(struct u16550 *uart, uint16_t *fifo_size)
 {
     uint8_t size;
-    int status = uart_if(fifo_size == NULL, U16550_NULL_POINTER);
-    if (status == U16550_OK)
-        status = uart_enter(uart);
+    int status = fifo_size == NULL ? U16550_NULL_POINTER : uart_enter(uart);
     if (status != U16550_OK)
         return status;
     status = uart_find_fifo_size(&uart->ring.uart, &size);
@@ -7841,9 +8105,7 @@ int u16550_find_fifo_size(struct u16550 *uart, uint16_t *fifo_size)
 int u16550_enable_64_byte_fifos(struct u16550 *uart, uint8_t *enabled)
 {
     bool found_enabled;
-    int status = uart_if(enabled == NULL, U16550_NULL_POINTER);
-    if (status == U16550_OK)
-        status = uart_enter(uart);
+    int status = enabled == NULL ? U16550_NULL_POINTER : uart_enter(uart);
     if (status != U16550_OK)
         return status;
     status = uart_enable_64_byte_fifos(&uart->ring.uart, &found_enabled);
@@ -7897,7 +8159,8 @@ int u16550_set_trigger_level(struct u16550 *uart, uint8_t characters)
     status = uart_decode_fifo_trigger_level(characters, &level);
     if (status != U16550_OK)
         return uart_leave(uart, status);
-    status = uart_unless(uart_set_trigger_level(&uart->ring.uart, level), U16550_FIFOS_OFF);
+    if (!uart_set_trigger_level(&uart->ring.uart, level))
+        status = U16550_FIFOS_OFF;
     return uart_leave(uart, status);
 }
 
@@ -7918,7 +8181,8 @@ int u16550_restore(struct u16550 *uart, const struct u16550_dump *dump)
     int status = uart_enter(uart);
     if (status != U16550_OK)
         return status;
-    status = uart_if(dump == NULL, U16550_NULL_POINTER);
+    if (dump == NULL)
+        status = U16550_NULL_POINTER;
     if (status != U16550_OK)
         return uart_leave(uart, status);
     uart_restore(&uart->ring.uart, dump);
@@ -7990,7 +8254,8 @@ int u16550_ready_to_receive(struct u16550 *uart)
     int status = uart_enter(uart);
     if (status != U16550_OK)
         return status;
-    status = uart_unless(uart_ready_to_receive(&uart->ring.uart), U16550_RECEIVE_NO_DATA);
+    if (!uart_ready_to_receive(&uart->ring.uart))
+        status = U16550_RECEIVE_NO_DATA;
     return uart_leave(uart, status);
 }
 
@@ -8006,12 +8271,11 @@ int u16550_ready_to_send(struct u16550 *uart)
 int u16550_try_receive_byte(struct u16550 *uart, uint8_t *byte)
 {
     uint8_t found_byte;
-    int status = uart_if(byte == NULL, U16550_NULL_POINTER);
-    if (status == U16550_OK)
-        status = uart_enter(uart);
+    int status = byte == NULL ? U16550_NULL_POINTER : uart_enter(uart);
     if (status != U16550_OK)
         return status;
-    status = uart_unless(uart_try_receive_byte(&uart->ring.uart, &found_byte), U16550_RECEIVE_NO_DATA);
+    if (!uart_try_receive_byte(&uart->ring.uart, &found_byte))
+        status = U16550_RECEIVE_NO_DATA;
     status = uart_leave(uart, status);
     if (status == U16550_OK)
         *byte = found_byte;
@@ -8108,12 +8372,11 @@ int u16550_send_gathered(struct u16550 *uart, const uint8_t *urgent, const uint8
 int u16550_try_receive_with_errors(struct u16550 *uart, struct u16550_received *received)
 {
     struct u16550_received found_received;
-    int status = uart_if(received == NULL, U16550_NULL_POINTER);
-    if (status == U16550_OK)
-        status = uart_enter(uart);
+    int status = received == NULL ? U16550_NULL_POINTER : uart_enter(uart);
     if (status != U16550_OK)
         return status;
-    status = uart_unless(uart_try_receive_with_errors(&uart->ring.uart, &found_received), U16550_RECEIVE_NO_DATA);
+    if (!uart_try_receive_with_errors(&uart->ring.uart, &found_received))
+        status = U16550_RECEIVE_NO_DATA;
     status = uart_leave(uart, status);
     if (status == U16550_OK)
         *received = found_received;
@@ -8185,8 +8448,8 @@ int u16550_receive_bytes_while(struct u16550 *uart, uint8_t *buffer, size_t len,
     if (status != U16550_OK)
         return status;
     status = uart_array(buffer, len, 1, 1);
-    if (status == U16550_OK)
-        status = uart_if(keep_waiting == NULL, U16550_NULL_POINTER);
+    if (status == U16550_OK && keep_waiting == NULL)
+        status = U16550_NULL_POINTER;
     if (status != U16550_OK)
         return uart_leave(uart, status);
     status = uart_receive_bytes_while(&uart->ring.uart, buffer, len, &patience, &stalled_at);
@@ -8207,8 +8470,8 @@ int u16550_send_bytes_while(struct u16550 *uart, const uint8_t *buffer, size_t l
     if (status != U16550_OK)
         return status;
     status = uart_array(buffer, len, 1, 1);
-    if (status == U16550_OK)
-        status = uart_if(keep_waiting == NULL, U16550_NULL_POINTER);
+    if (status == U16550_OK && keep_waiting == NULL)
+        status = U16550_NULL_POINTER;
     if (status != U16550_OK)
         return uart_leave(uart, status);
     status = uart_send_bytes_while(&uart->ring.uart, buffer, len, &patience, &stalled_at);
@@ -8224,7 +8487,8 @@ int u16550_flush_while(struct u16550 *uart, uint8_t (*keep_waiting)(void *contex
     int status = uart_enter(uart);
     if (status != U16550_OK)
         return status;
-    status = uart_if(keep_waiting == NULL, U16550_NULL_POINTER);
+    if (keep_waiting == NULL)
+        status = U16550_NULL_POINTER;
     if (status != U16550_OK)
         return uart_leave(uart, status);
     status = uart_flush_while(&uart->ring.uart, &patience);
@@ -8279,9 +8543,7 @@ int u16550_flush(struct u16550 *uart)
 int u16550_read_ready(struct u16550 *uart, uint8_t *ready)
 {
     bool found_ready;
-    int status = uart_if(ready == NULL, U16550_NULL_POINTER);
-    if (status == U16550_OK)
-        status = uart_enter(uart);
+    int status = ready == NULL ? U16550_NULL_POINTER : uart_enter(uart);
     if (status != U16550_OK)
         return status;
     status = uart_read_ready(&uart->ring.uart, &found_ready);
@@ -8294,9 +8556,7 @@ int u16550_read_ready(struct u16550 *uart, uint8_t *ready)
 int u16550_write_ready(struct u16550 *uart, uint8_t *ready)
 {
     bool found_ready;
-    int status = uart_if(ready == NULL, U16550_NULL_POINTER);
-    if (status == U16550_OK)
-        status = uart_enter(uart);
+    int status = ready == NULL ? U16550_NULL_POINTER : uart_enter(uart);
     if (status != U16550_OK)
         return status;
     status = uart_write_ready(&uart->ring.uart, &found_ready);
@@ -8309,9 +8569,7 @@ int u16550_write_ready(struct u16550 *uart, uint8_t *ready)
 int u16550_is_idle(struct u16550 *uart, uint8_t *idle)
 {
     uint8_t found;
-    int status = uart_if(idle == NULL, U16550_NULL_POINTER);
-    if (status == U16550_OK)
-        status = uart_enter(uart);
+    int status = idle == NULL ? U16550_NULL_POINTER : uart_enter(uart);
     if (status != U16550_OK)
         return status;
     found = uart_is_idle(&uart->ring.uart);
@@ -8323,9 +8581,7 @@ int u16550_is_idle(struct u16550 *uart, uint8_t *idle)
 int u16550_is_gone(struct u16550 *uart, uint8_t *gone)
 {
     uint8_t found;
-    int status = uart_if(gone == NULL, U16550_NULL_POINTER);
-    if (status == U16550_OK)
-        status = uart_enter(uart);
+    int status = gone == NULL ? U16550_NULL_POINTER : uart_enter(uart);
     if (status != U16550_OK)
         return status;
     found = uart_is_gone(&uart->ring.uart);
@@ -8337,9 +8593,7 @@ int u16550_is_gone(struct u16550 *uart, uint8_t *gone)
 int u16550_ier(struct u16550 *uart, uint8_t *value)
 {
     uint8_t found;
-    int status = uart_if(value == NULL, U16550_NULL_POINTER);
-    if (status == U16550_OK)
-        status = uart_enter(uart);
+    int status = value == NULL ? U16550_NULL_POINTER : uart_enter(uart);
     if (status != U16550_OK)
         return status;
     found = uart_ier(&uart->ring.uart);
@@ -8351,9 +8605,7 @@ int u16550_ier(struct u16550 *uart, uint8_t *value)
 int u16550_isr(struct u16550 *uart, uint8_t *value)
 {
     uint8_t found;
-    int status = uart_if(value == NULL, U16550_NULL_POINTER);
-    if (status == U16550_OK)
-        status = uart_enter(uart);
+    int status = value == NULL ? U16550_NULL_POINTER : uart_enter(uart);
     if (status != U16550_OK)
         return status;
     found = uart_isr(&uart->ring.uart);
@@ -8365,9 +8617,7 @@ int u16550_isr(struct u16550 *uart, uint8_t *value)
 int u16550_lcr(struct u16550 *uart, uint8_t *value)
 {
     uint8_t found;
-    int status = uart_if(value == NULL, U16550_NULL_POINTER);
-    if (status == U16550_OK)
-        status = uart_enter(uart);
+    int status = value == NULL ? U16550_NULL_POINTER : uart_enter(uart);
     if (status != U16550_OK)
         return status;
     found = uart_lcr(&uart->ring.uart);
@@ -8379,9 +8629,7 @@ int u16550_lcr(struct u16550 *uart, uint8_t *value)
 int u16550_mcr(struct u16550 *uart, uint8_t *value)
 {
     uint8_t found;
-    int status = uart_if(value == NULL, U16550_NULL_POINTER);
-    if (status == U16550_OK)
-        status = uart_enter(uart);
+    int status = value == NULL ? U16550_NULL_POINTER : uart_enter(uart);
     if (status != U16550_OK)
         return status;
     found = uart_mcr(&uart->ring.uart);
@@ -8393,9 +8641,7 @@ int u16550_mcr(struct u16550 *uart, uint8_t *value)
 int u16550_lsr(struct u16550 *uart, uint8_t *value)
 {
     uint8_t found;
-    int status = uart_if(value == NULL, U16550_NULL_POINTER);
-    if (status == U16550_OK)
-        status = uart_enter(uart);
+    int status = value == NULL ? U16550_NULL_POINTER : uart_enter(uart);
     if (status != U16550_OK)
         return status;
     found = uart_lsr(&uart->ring.uart);
@@ -8407,9 +8653,7 @@ int u16550_lsr(struct u16550 *uart, uint8_t *value)
 int u16550_msr(struct u16550 *uart, uint8_t *value)
 {
     uint8_t found;
-    int status = uart_if(value == NULL, U16550_NULL_POINTER);
-    if (status == U16550_OK)
-        status = uart_enter(uart);
+    int status = value == NULL ? U16550_NULL_POINTER : uart_enter(uart);
     if (status != U16550_OK)
         return status;
     found = uart_msr(&uart->ring.uart);
@@ -8421,9 +8665,7 @@ int u16550_msr(struct u16550 *uart, uint8_t *value)
 int u16550_spr(struct u16550 *uart, uint8_t *value)
 {
     uint8_t found;
-    int status = uart_if(value == NULL, U16550_NULL_POINTER);
-    if (status == U16550_OK)
-        status = uart_enter(uart);
+    int status = value == NULL ? U16550_NULL_POINTER : uart_enter(uart);
     if (status != U16550_OK)
         return status;
     found = uart_spr(&uart->ring.uart);
@@ -8450,9 +8692,7 @@ int u16550_dll_dlm(struct u16550 *uart, uint8_t *dll, uint8_t *dlm)
 int u16550_peek_modem(struct u16550 *uart, uint8_t *msr)
 {
     uint8_t found;
-    int status = uart_if(msr == NULL, U16550_NULL_POINTER);
-    if (status == U16550_OK)
-        status = uart_enter(uart);
+    int status = msr == NULL ? U16550_NULL_POINTER : uart_enter(uart);
     if (status != U16550_OK)
         return status;
     found = uart_peek_modem(&uart->ring.uart);
@@ -8491,9 +8731,7 @@ int u16550_retrigger_interrupts(struct u16550 *uart)
 int u16550_config_register_dump(struct u16550 *uart, struct u16550_dump *dump)
 {
     struct u16550_dump found;
-    int status = uart_if(dump == NULL, U16550_NULL_POINTER);
-    if (status == U16550_OK)
-        status = uart_enter(uart);
+    int status = dump == NULL ? U16550_NULL_POINTER : uart_enter(uart);
     if (status != U16550_OK)
         return status;
     found = uart_config_register_dump(&uart->ring.uart);
@@ -8534,9 +8772,7 @@ int u16550_ring_receive_len(struct u16550 *uart, size_t *len)
 int u16550_ring_is_paused(struct u16550 *uart, uint8_t *paused)
 {
     uint8_t found;
-    int status = uart_if(paused == NULL, U16550_NULL_POINTER);
-    if (status == U16550_OK)
-        status = uart_enter_rings(uart);
+    int status = paused == NULL ? U16550_NULL_POINTER : uart_enter_rings(uart);
     if (status != U16550_OK)
         return status;
     found = uart_ring_is_paused(&uart->ring);
@@ -8597,9 +8833,7 @@ int u16550_ring_release_transmit(struct u16550 *uart)
 int u16550_ring_is_held(struct u16550 *uart, uint8_t *held)
 {
     uint8_t found;
-    int status = uart_if(held == NULL, U16550_NULL_POINTER);
-    if (status == U16550_OK)
-        status = uart_enter_rings(uart);
+    int status = held == NULL ? U16550_NULL_POINTER : uart_enter_rings(uart);
     if (status != U16550_OK)
         return status;
     found = uart_ring_is_held(&uart->ring);
@@ -8611,9 +8845,7 @@ int u16550_ring_is_held(struct u16550 *uart, uint8_t *held)
 int u16550_ring_queue_urgent(struct u16550 *uart, uint8_t byte, struct u16550_urgent *replaced)
 {
     struct u16550_urgent found = { 0, 0 };
-    int status = uart_if(replaced == NULL, U16550_NULL_POINTER);
-    if (status == U16550_OK)
-        status = uart_enter_rings(uart);
+    int status = replaced == NULL ? U16550_NULL_POINTER : uart_enter_rings(uart);
     if (status != U16550_OK)
         return status;
     found.waits = uart_ring_queue_urgent(&uart->ring, byte, &found.byte);
@@ -8627,9 +8859,7 @@ int u16550_ring_queue_urgent(struct u16550 *uart, uint8_t byte, struct u16550_ur
 int u16550_ring_urgent(struct u16550 *uart, struct u16550_urgent *urgent)
 {
     struct u16550_urgent found = { 0, 0 };
-    int status = uart_if(urgent == NULL, U16550_NULL_POINTER);
-    if (status == U16550_OK)
-        status = uart_enter_rings(uart);
+    int status = urgent == NULL ? U16550_NULL_POINTER : uart_enter_rings(uart);
     if (status != U16550_OK)
         return status;
     found.waits = uart_ring_urgent(&uart->ring, &found.byte);
@@ -8680,9 +8910,7 @@ int u16550_ring_set_low_mark(struct u16550 *uart, size_t mark)
 int u16550_ring_take_low(struct u16550 *uart, uint8_t *low)
 {
     uint8_t found;
-    int status = uart_if(low == NULL, U16550_NULL_POINTER);
-    if (status == U16550_OK)
-        status = uart_enter_rings(uart);
+    int status = low == NULL ? U16550_NULL_POINTER : uart_enter_rings(uart);
     if (status != U16550_OK)
         return status;
     found = uart_ring_take_low(&uart->ring);
@@ -8721,9 +8949,7 @@ int u16550_ring_adjust_xoff(struct u16550 *uart, size_t hold, size_t release,
     struct u16550_urgent *told)
 {
     struct u16550_urgent found = { 0, 0 };
-    int status = uart_if(told == NULL, U16550_NULL_POINTER);
-    if (status == U16550_OK)
-        status = uart_enter_rings(uart);
+    int status = told == NULL ? U16550_NULL_POINTER : uart_enter_rings(uart);
     if (status != U16550_OK)
         return status;
     found.waits = uart_ring_adjust_xoff(&uart->ring, uart_marks(hold, release), &found.byte);
@@ -8737,9 +8963,7 @@ int u16550_ring_adjust_xoff(struct u16550 *uart, size_t hold, size_t release,
 int u16550_ring_obey_xoff(struct u16550 *uart, struct u16550_urgent *told)
 {
     struct u16550_urgent found = { 0, 0 };
-    int status = uart_if(told == NULL, U16550_NULL_POINTER);
-    if (status == U16550_OK)
-        status = uart_enter_rings(uart);
+    int status = told == NULL ? U16550_NULL_POINTER : uart_enter_rings(uart);
     if (status != U16550_OK)
         return status;
     found.waits = uart_ring_obey_xoff(&uart->ring, &found.byte);
@@ -8825,9 +9049,7 @@ int u16550_ring_service(struct u16550 *uart, size_t *count)
 int u16550_ring_take_line(struct u16550 *uart, uint8_t *lsr)
 {
     uint8_t found;
-    int status = uart_if(lsr == NULL, U16550_NULL_POINTER);
-    if (status == U16550_OK)
-        status = uart_enter_rings(uart);
+    int status = lsr == NULL ? U16550_NULL_POINTER : uart_enter_rings(uart);
     if (status != U16550_OK)
         return status;
     found = uart_ring_take_line(&uart->ring);
@@ -8839,9 +9061,7 @@ int u16550_ring_take_line(struct u16550 *uart, uint8_t *lsr)
 int u16550_ring_take_modem(struct u16550 *uart, uint8_t *msr)
 {
     uint8_t found;
-    int status = uart_if(msr == NULL, U16550_NULL_POINTER);
-    if (status == U16550_OK)
-        status = uart_enter_rings(uart);
+    int status = msr == NULL ? U16550_NULL_POINTER : uart_enter_rings(uart);
     if (status != U16550_OK)
         return status;
     found = uart_ring_take_modem(&uart->ring);
@@ -8853,9 +9073,7 @@ int u16550_ring_take_modem(struct u16550 *uart, uint8_t *msr)
 int u16550_ring_config_register_dump(struct u16550 *uart, struct u16550_dump *dump)
 {
     struct u16550_dump found;
-    int status = uart_if(dump == NULL, U16550_NULL_POINTER);
-    if (status == U16550_OK)
-        status = uart_enter_rings(uart);
+    int status = dump == NULL ? U16550_NULL_POINTER : uart_enter_rings(uart);
     if (status != U16550_OK)
         return status;
     found = uart_ring_config_register_dump(&uart->ring);
@@ -9005,4 +9223,35 @@ const char *u16550_text(int status)
         return "no known status";
     }
 }
+#endif
+
+/*
+ * Where code is to be small, gcc for PowerPC saves registers and returns by functions of its own library. A program that is linked without
+ * that library has them here. One that has them, as kernels do, takes its own. Two files that are compiled as one have them once.
+ */
+#if defined(__powerpc__) && !defined(__powerpc64__) && defined(__ELF__) && defined(__OPTIMIZE_SIZE__) && !defined(__clang__)
+#define UART_CALLERS_REGISTERS "14, 15, 16, 17, 18, 19, 20, 21, 22, 23, 24, 25, 26, 27, 28, 29, 30, 31"
+__asm__(".ifndef _restgpr_14_x\n"
+        ".pushsection .text.uart_restore, \"ax\", @progbits\n"
+        ".irp number, " UART_CALLERS_REGISTERS "\n"
+        ".weak _restgpr_\\number\\()_x\n"
+        ".hidden _restgpr_\\number\\()_x\n"
+        "_restgpr_\\number\\()_x: lwz \\number, 4 * (\\number - 32)(11)\n"
+        ".endr\n"
+        "lwz 0, 4(11)\n"
+        "mtlr 0\n"
+        "mr 1, 11\n"
+        "blr\n"
+        ".popsection\n"
+        ".endif\n"
+        ".ifndef _savegpr_14\n"
+        ".pushsection .text.uart_save, \"ax\", @progbits\n"
+        ".irp number, " UART_CALLERS_REGISTERS "\n"
+        ".weak _savegpr_\\number\n"
+        ".hidden _savegpr_\\number\n"
+        "_savegpr_\\number: stw \\number, 4 * (\\number - 32)(11)\n"
+        ".endr\n"
+        "blr\n"
+        ".popsection\n"
+        ".endif\n");
 #endif

@@ -27,8 +27,8 @@
 #define U16550_H
 
 /*
- * A kernel without these headers defines U16550_HAS_TYPES, and has bool, size_t, offsetof, uintptr_t and uint8_t to uint64_t with
- * their limits itself.
+ * A kernel without these headers defines U16550_HAS_TYPES, and has bool, true, false, size_t, NULL, offsetof, uintptr_t and uint8_t to
+ * uint64_t itself.
  */
 #ifndef U16550_HAS_TYPES
 #include <stdbool.h>
@@ -681,8 +681,8 @@ struct u16550_core_direction {
  * in the shift register. So somebody polls, or waits for the time that the bytes take.
  *
  * Whether the receiver hears what this end sends depends on the board. If it does, as many bytes
- * as were sent are received: take them by receive_echo between calls that send, before they
- * overrun the receiver. No call drops received bytes.
+ * as were sent are received: take them by u16550_bus_receive_bytes between calls that send, before
+ * they overrun the receiver. No call drops received bytes.
  *
  * Only calls of this type keep the direction, so no call of a driver is to be made over it. For
  * other calls, as u16550_set_frame, take the driver back by u16550_bus_end, and give it to
@@ -811,7 +811,8 @@ int u16550_default_config(struct u16550_config *config);
 /*
  * Writes the configuration with the frequency at which the nearest divisor gives its baud rate exactly, if that differs from
  * its frequency by at most so many thousandths. u16550_init and u16550_set_frame accept it, and write the nearest divisor. The
- * line then has a rate that differs by as many thousandths at most. Receivers tolerate about 20, of both sides together.
+ * line then has a rate that differs by as many thousandths at most. The two sides of a line may be some 45 thousandths
+ * apart, so 20 for each is usual.
  * Returns an enum u16550_nearest_error if there is none. nearest may be config.
  */
 /*

@@ -8,7 +8,12 @@
  */
 #include "u16550_console.h"
 
-/* Where the registers are, their bits, and numbers of the driver. */
+/* What a header in the place of stdint.h may lack. */
+#ifndef SIZE_MAX
+#define SIZE_MAX ((size_t)-1)
+#endif
+
+/* Where the registers are, and their bits. */
 enum {
     UART_DATA = 0,
     UART_DLL = 0,
@@ -23,7 +28,6 @@ enum {
     UART_SPR = 7,
     U16550_FCR_FIFO_ENABLE = 0x01,
     U16550_FCR_RX_FIFO_RESET = 0x02,
-    U16550_FCR_RX_FIFO_TRIGGER_LEVEL = 0xc0,
     U16550_FCR_TRIGGER_14 = 0xc0,
     U16550_FCR_TX_FIFO_RESET = 0x04,
     U16550_ISR_FIFOS_ENABLED = 0xc0,
@@ -38,11 +42,26 @@ enum {
     U16550_MCR_LOOP_BACK = 0x10,
     U16550_MCR_OUT_1 = 0x04,
     U16550_MCR_OUT_2_INT_ENABLE = 0x08,
-    U16550_MCR_RTS = 0x02,
+    U16550_MCR_RTS = 0x02
+};
+
+/* Waits, and the FIFOs. */
+enum {
+    /* Of a 16550, in characters. */
     UART_FIFO_SIZE = 16,
+    /* The number of characters in a full FIFO and the shift register. */
+    UART_MOST_WAITING = 17
+};
+
+/* Is there a chip, and does it work. */
+enum {
+    /*
+     * The patterns that are written to the scratch register. Where no chip is, a read returns
+     * something too, often 0xff. A place that always returns the first pattern fails the second.
+     */
     UART_FIRST_PATTERN = 0x42,
-    UART_MOST_WAITING = 17,
     UART_SECOND_PATTERN = 0x73,
+    /* What the loopback test sends first. */
     UART_TEST_BYTE = 0x42
 };
 
@@ -60,12 +79,12 @@ enum {
 #define U16550_CONSOLE_BAUD_RATE 115200
 #endif
 
-/* The divisor, as uart_calc_divisor has it without a prescaler. A baud rate that has no whole one is refused. */
+/* The clock divided by 16 times the baud rate. A baud rate that has no whole divisor is refused. An int of 16 bits is less than that product. */
 #ifndef U16550_CONSOLE_DIVISOR
-#if U16550_CONSOLE_BAUD_RATE <= 0 || U16550_CONSOLE_FREQUENCY % (16 * U16550_CONSOLE_BAUD_RATE) != 0
+#if U16550_CONSOLE_BAUD_RATE <= 0 || U16550_CONSOLE_FREQUENCY % (16UL * U16550_CONSOLE_BAUD_RATE) != 0
 #error "no whole divisor gives U16550_CONSOLE_BAUD_RATE: define U16550_CONSOLE_DIVISOR"
 #endif
-#define U16550_CONSOLE_DIVISOR (U16550_CONSOLE_FREQUENCY / (16 * U16550_CONSOLE_BAUD_RATE))
+#define U16550_CONSOLE_DIVISOR (U16550_CONSOLE_FREQUENCY / (16UL * U16550_CONSOLE_BAUD_RATE))
 #endif
 #if U16550_CONSOLE_DIVISOR < 1 || U16550_CONSOLE_DIVISOR > 65535
 #error "the divisor does not fit its register"
@@ -117,7 +136,7 @@ enum {
 #elif defined(__s390x__)
 #define U16550_BARRIER() __asm__ __volatile__("bcr 15, 0" : : : "memory")
 #elif defined(__i386__) || defined(__x86_64__) || defined(__arm__) || defined(__aarch64__) || defined(__AVR__) || defined(__MSP430__) || \
-    defined(_M_IX86) || defined(_M_X64)
+    defined(_M_IX86) || defined(_M_X64) || defined(__SDCC)
 #define U16550_BARRIER() UART_FENCE()
 #elif defined(__GNUC__)
 #define U16550_BARRIER() __sync_synchronize()
@@ -251,8 +270,8 @@ static inline bool uart_keeps(uint8_t pattern)
 }
 
 /*
- * Proved: the scratch register keeps both patterns; or it does not keep the first; or it keeps the
- * first and not the second.
+ * Proved: the first pattern is written and, if it is kept, the second; the result is whether both
+ * were kept.
  */
 static inline bool uart_keeps_patterns(void)
 {
@@ -283,37 +302,22 @@ static inline bool uart_check_present(void)
  */
 static void uart_set_line(uint16_t divisor, uint8_t frame)
 {
+    /* DLAB may still be set from before. Then the write of IER would go to the divisor. */
     uart_device_write(UART_LCR, 0);
+    /*
+     * No interrupt comes from here on: a handler could reach neither data nor IER while DLAB is
+     * set.
+     */
     uart_device_write(UART_IER, 0);
     uart_device_write(UART_LCR, U16550_LCR_DLAB);
     uart_device_write(UART_DLL, (uint8_t)divisor);
     uart_device_write(UART_DLM, (uint8_t)(divisor >> 8));
+    /*
+     * The frame clears DLAB too. This write stays, since each access is one that the crate
+     * uart_16550 in Rust makes.
+     */
     uart_device_write(UART_LCR, 0);
     uart_device_write(UART_LCR, frame);
-}
-
-/*
- * Returns the register with this trigger level. No other bit changes.
- *
- * The level is fourteen in each call, and so it is left out.
- *
- * Proved: these bits are the code of this trigger level.
- * Proved: no other bit changes.
- */
-static inline uint8_t uart_fcr_with_trigger_level(uint8_t fcr)
-{
-    return (fcr & (uint8_t)~U16550_FCR_RX_FIFO_TRIGGER_LEVEL) | U16550_FCR_TRIGGER_14;
-}
-
-/*
- * Returns FCR for a trigger level.
- *
- * The level is fourteen in each call, and so it is left out.
- */
-static inline uint8_t uart_fcr_resetting_fifos(void)
-{
-    return uart_fcr_with_trigger_level(U16550_FCR_RX_FIFO_RESET | U16550_FCR_TX_FIFO_RESET |
-        U16550_FCR_FIFO_ENABLE);
 }
 
 /* Returns whether the FIFOs are on and work: bits 6 and 7 are both set then. */
@@ -323,26 +327,24 @@ static inline bool uart_isr_fifo_enabled(uint8_t isr)
 }
 
 /*
- * Resets the FIFOs, enables them if there is a level, and returns whether they are on then.
+ * Resets the FIFOs, enables them, and returns whether they are on then.
  *
- * The level is fourteen in each call, and so it is left out.
- *
- * Proved: the FIFO step: FCR is written and, if a level is configured, ISR shows whether the FIFO
- * is on.
+ * Proved: FCR is written, and ISR shows whether the FIFO is on.
  */
 static inline bool uart_set_fifo(void)
 {
-    uart_device_write(UART_FCR, uart_fcr_resetting_fifos());
+    uart_device_write(UART_FCR,
+        U16550_FCR_RX_FIFO_RESET | U16550_FCR_TX_FIFO_RESET | U16550_FCR_FIFO_ENABLE |
+        U16550_FCR_TRIGGER_14);
     return uart_isr_fifo_enabled(uart_device_read(UART_ISR));
 }
 
 /*
- * Discards received bytes until none is available, or as many as the receiver can hold. More are
+ * Discards received bytes until none is available, at most 17, as many as a 16550 holds. More are
  * not discarded: a remote that never stops sending must not hold u16550_console_init for ever.
  * What the reads clear is not saved, since those errors are of bytes that nobody gets.
  *
- * Proved: received bytes are discarded until none is available, or as many as the receiver can
- * hold.
+ * Proved: received bytes are discarded until none is available, or until there were 17.
  */
 static inline void uart_drain(void)
 {
@@ -362,8 +364,8 @@ static inline uint8_t uart_read_lsr(struct u16550_console *uart)
 }
 
 /*
- * Polls LSR until it shows these bits, or until the limit. Each wait has a loop of its own over
- * the limit, so the polls that count are those in a row: progress begins a new count.
+ * Polls LSR until it shows these bits, or until the limit. Each call counts anew: the polls that
+ * count are those in a row.
  *
  * Proved: a wait for these bits of LSR: fewer reads without them than the limit and then one with
  * them; or as many without them.
@@ -384,6 +386,11 @@ static inline bool uart_wait_for(struct u16550_console *uart, uint8_t bits)
  */
 static inline void uart_finish_init(struct u16550_console *uart)
 {
+    /*
+     * These reads clear what is left over: errors, changes of modem lines and a pending
+     * THR_EMPTY. Some arise in u16550_console_init itself: the write of MCR may have ended a
+     * loopback, and that changes modem lines.
+     */
     uart_device_read(UART_LSR);
     uart_device_read(UART_ISR);
     uart_device_read(UART_MSR);
@@ -404,9 +411,19 @@ static int uart_set_up(struct u16550_console *uart, uint16_t divisor)
         return U16550_CONSOLE_DEVICE_NOT_PRESENT;
     uart_set_line(divisor, U16550_LCR_8N1);
     uart->fifo_enabled = uart_set_fifo();
+    /*
+     * FCR has emptied a FIFO. Without FIFO its reset does nothing, and an old byte would be the
+     * first of the new session. The old bytes must be gone before MCR is written: DTR and RTS
+     * tell the remote that we are ready, and what the remote sends then is not to be discarded.
+     */
     uart_drain();
+    /* OUT2 is for who enables interrupts later: on a PC it opens the gate of their line. */
     uart_device_write(UART_MCR,
         U16550_MCR_DTR | U16550_MCR_RTS | U16550_MCR_OUT_2_INT_ENABLE);
+    /*
+     * If the wait stalls, what its polls have cleared stays saved. The drain saved nothing, and
+     * the saved bits are reset only at the end.
+     */
     if (!uart_wait_for(uart, U16550_LSR_TRANSMITTER_EMPTY))
         return U16550_CONSOLE_INIT_STALLED;
     uart_finish_init(uart);
@@ -422,15 +439,15 @@ static int uart_set_up(struct u16550_console *uart, uint16_t divisor)
  * Proved: LCR is read, and written with DLAB; the divisor latch is read, its low byte first; and
  * LCR is written back.
  */
-static struct uart_latch uart_dll_dlm(void)
+static void uart_dll_dlm(struct uart_latch *latch)
 {
     uint8_t lcr = uart_device_read(UART_LCR);
     uart_device_write(UART_LCR, lcr | U16550_LCR_DLAB);
     uint8_t dll = uart_device_read(UART_DLL);
     uint8_t dlm = uart_device_read(UART_DLM);
     uart_device_write(UART_LCR, lcr);
-    struct uart_latch latch = { dll, dlm };
-    return latch;
+    latch->dll = dll;
+    latch->dlm = dlm;
 }
 
 /*
@@ -458,11 +475,18 @@ static struct uart_latch uart_dll_dlm(void)
  */
 static int uart_attach(struct u16550_console *uart, struct uart_latch *latch)
 {
+    /*
+     * LCR comes first, since its DLAB says what other offsets are: on later chips some of its
+     * values show further registers in place of MCR and ISR. ISR comes last, after the latch
+     * too, since its read may acknowledge an interrupt, and a refusal is to change nothing.
+     */
     if ((uart_device_read(UART_LCR) & U16550_LCR_DLAB) != 0)
         return U16550_CONSOLE_DIVISOR_LATCH_OPEN;
     if ((uart_device_read(UART_MCR) & U16550_MCR_LOOP_BACK) != 0)
         return U16550_CONSOLE_LOOPBACK;
-    struct uart_latch shown = uart_dll_dlm();
+    struct uart_latch shown;
+    uart_dll_dlm(&shown);
+    /* No port is set up so, and where nothing answers all registers may read as 0. */
     if (shown.dll == 0 && shown.dlm == 0)
         return U16550_CONSOLE_NO_DIVISOR;
     uart->fifo_enabled = uart_isr_fifo_enabled(uart_device_read(UART_ISR));
@@ -471,19 +495,22 @@ static int uart_attach(struct u16550_console *uart, struct uart_latch *latch)
 }
 
 /*
- * Reads the modem lines, and sets the device to loopback with interrupts off, and with FIFOs of
- * this level, if there is one.
+ * Reads the modem lines, and sets the device to loopback with interrupts off, and resets the
+ * FIFOs.
  *
- * The level is fourteen in each call, and so it is left out.
- *
- * Proved: MSR is read, interrupts are switched off, loopback is switched on, and the FIFO step is
- * made with this level.
+ * Proved: MSR is read, interrupts are switched off, loopback is switched on, and FCR is written,
+ * and ISR shows whether the FIFO is on.
  */
 static inline uint8_t uart_enter_loopback(struct u16550_console *uart)
 {
     uint8_t before = uart_device_read(UART_MSR);
+    /*
+     * Loopback connects the modem's inputs to the outputs: the changes from before are cleared
+     * here. A handler would take the bytes that come back.
+     */
     uart_device_write(UART_IER, 0);
     uart_device_write(UART_MCR, U16550_MCR_LOOP_BACK);
+    /* Bytes that were received before are gone after the reset. */
     uart->fifo_enabled = uart_set_fifo();
     return before;
 }
@@ -558,65 +585,6 @@ static inline int uart_ready_to_send(struct u16550_console *uart)
     return U16550_CONSOLE_OK;
 }
 
-/* Writes the bytes to DATA in order. */
-static inline void uart_write_data(const uint8_t *bytes, size_t bytes_len)
-{
-    for (size_t i = 0; i < bytes_len; i++)
-        uart_device_write(UART_DATA, bytes[i]);
-}
-
-/* Writes bytes from the front to DATA, at most so many, and returns how many. */
-static inline size_t uart_write_up_to(size_t limit, const uint8_t *bytes, size_t bytes_len)
-{
-    size_t count = limit < bytes_len ? limit : bytes_len;
-    uart_write_data(bytes, count);
-    return count;
-}
-
-/*
- * Writes one burst from the front to DATA, and returns its length: as many bytes as certainly fit.
- * LSR shows whether the FIFO is empty, and no register shows how full it is. One byte more could
- * be lost, and nothing would tell.
- *
- * A whole burst of 16, the size of most chips, is apart, since its length is known to the
- * compiler: it then counts no bytes.
- */
-static size_t
-uart_write_burst(struct u16550_console *uart, const uint8_t *bytes, size_t bytes_len)
-{
-    if (!uart->fifo_enabled) {
-        uart_device_write(UART_DATA, bytes[0]);
-        return 1;
-    }
-    if (bytes_len >= UART_FIFO_SIZE) {
-        uart_write_data(bytes, UART_FIFO_SIZE);
-        return UART_FIFO_SIZE;
-    }
-    return uart_write_up_to(UART_FIFO_SIZE, bytes, bytes_len);
-}
-
-/*
- * Sends bytes from the front of the array if there is room, and returns how many: up to as many as
- * the FIFO holds if it is on, else one; 0 if uart_ready_to_send fails.
- *
- * Does not wait: makes one check as uart_ready_to_send, and one burst of writes to THR. The chip
- * reports only an empty FIFO, not how full it is, so nothing is sent until the last burst has left
- * the FIFO. Call it again with the rest of the array to send more. An empty array makes no access.
- *
- * Proved: nothing if there are no bytes; else a send check and, if it succeeds, bytes from the
- * front are written to DATA: as many as the FIFO holds, or one if it is off. The result is how
- * many.
- */
-static inline size_t
-uart_send_bytes(struct u16550_console *uart, const uint8_t *buffer, size_t buffer_len)
-{
-    if (buffer_len == 0)
-        return 0;
-    if (uart_ready_to_send(uart) != U16550_CONSOLE_OK)
-        return 0;
-    return uart_write_burst(uart, buffer, buffer_len);
-}
-
 /*
  * Sends one byte if there is room: makes one check as uart_ready_to_send, and one write to THR.
  *
@@ -626,19 +594,19 @@ uart_send_bytes(struct u16550_console *uart, const uint8_t *buffer, size_t buffe
  *
  * U16550_CONSOLE_NO_CAPACITY if the byte was not sent, whatever the cause.
  *
- * Proved: the accesses of uart_send_bytes for this one byte, which is sent exactly if the result
+ * Proved: the accesses of u16550_send_bytes for this one byte, which is sent exactly if the result
  * is U16550_CONSOLE_OK; the only error is U16550_CONSOLE_NO_CAPACITY.
  */
 static inline int uart_try_send_byte(struct u16550_console *uart, uint8_t byte)
 {
-    if (uart_send_bytes(uart, &byte, 1) == 0)
+    if (uart_ready_to_send(uart) != U16550_CONSOLE_OK)
         return U16550_CONSOLE_NO_CAPACITY;
+    uart_device_write(UART_DATA, byte);
     return U16550_CONSOLE_OK;
 }
 
 /*
- * Waits for one byte. The first poll is separate, since it mostly finds one: then the limit is
- * never read.
+ * Waits for one byte. The first poll mostly finds one, and so stands before the loop.
  *
  * Proved: a wait for one byte: it was received, or there were as many misses as the limit.
  */
@@ -687,6 +655,43 @@ static inline bool uart_wait_to_send(struct u16550_console *uart)
     return false;
 }
 
+/* Writes the bytes to DATA in order. */
+static inline void uart_write_data(const uint8_t *bytes, size_t bytes_len)
+{
+    for (size_t i = 0; i < bytes_len; i++)
+        uart_device_write(UART_DATA, bytes[i]);
+}
+
+/* Writes bytes from the front to DATA, at most so many, and returns how many. */
+static inline size_t uart_write_up_to(size_t limit, const uint8_t *bytes, size_t bytes_len)
+{
+    size_t count = limit < bytes_len ? limit : bytes_len;
+    uart_write_data(bytes, count);
+    return count;
+}
+
+/*
+ * Writes one burst from the front to DATA, and returns its length: as many bytes as certainly fit.
+ * LSR shows whether the FIFO is empty, and no register shows how full it is. One byte more could
+ * be lost, and nothing would tell.
+ *
+ * A whole burst of 16, the size of most chips, is apart, since its length is known to the
+ * compiler: it then counts no bytes.
+ */
+static size_t
+uart_write_burst(struct u16550_console *uart, const uint8_t *bytes, size_t bytes_len)
+{
+    if (!uart->fifo_enabled) {
+        uart_device_write(UART_DATA, bytes[0]);
+        return 1;
+    }
+    if (bytes_len >= UART_FIFO_SIZE) {
+        uart_write_data(bytes, UART_FIFO_SIZE);
+        return UART_FIFO_SIZE;
+    }
+    return uart_write_up_to(UART_FIFO_SIZE, bytes, bytes_len);
+}
+
 /*
  * Waits until a burst was sent, and returns its length.
  *
@@ -723,6 +728,7 @@ uart_send_bytes_exact(struct u16550_console *uart, const uint8_t *bytes, size_t 
     size_t *stalled_at)
 {
     size_t done = 0;
+    /* Without FIFO each burst is one byte, which needs no loop of its own. */
     while (done < bytes_len) {
         size_t count;
         if (!uart_send_some(uart, &bytes[done], bytes_len - done, &count)) {
@@ -858,10 +864,18 @@ static inline int uart_exchange(struct u16550_console *uart)
 static inline void
 uart_leave_loopback(struct u16550_console *uart, uint8_t mcr, uint8_t ier, uint8_t noted)
 {
+    /*
+     * The inputs are the modem's lines again. Those that are set change by that, which is a
+     * modem status interrupt. OUT2 stays clear until the read of MSR has cleared it, and IER is
+     * still 0. Otherwise the interrupt line would rise for a moment, and a controller that
+     * detects edges would call the handler for nothing.
+     */
     uart_device_write(UART_MCR, mcr & (uint8_t)~U16550_MCR_OUT_2_INT_ENABLE);
+    /* The change bits that this read clears tell what the test did. */
     uart_device_read(UART_MSR);
     uart_device_write(UART_MCR, mcr);
     uart_device_write(UART_IER, ier);
+    /* Errors in loopback are those of the test's bytes, or of bytes that it has discarded. */
     uart->saved_lsr = noted;
 }
 
@@ -899,6 +913,10 @@ static int uart_test_loopback(struct u16550_console *uart)
 {
     uint8_t mcr = uart_device_read(UART_MCR);
     uint8_t ier = uart_device_read(UART_IER);
+    /*
+     * A byte that is still to go out would come back among those of the test, and would never
+     * reach the remote.
+     */
     if (!uart_wait_for(uart, U16550_LSR_TRANSMITTER_EMPTY))
         return U16550_CONSOLE_LOOPBACK_STALLED;
     uint8_t noted = uart->saved_lsr;
@@ -936,7 +954,55 @@ static inline uint8_t uart_lsr(struct u16550_console *uart)
  */
 static inline void uart_set_modem_control(uint8_t outputs)
 {
+    /*
+     * In loopback the outputs are inactive at the pins, whatever MCR has, so the remote would
+     * not see what was asked for. The driver itself never leaves the chip in loopback.
+     */
     uart_device_write(UART_MCR, outputs & (uint8_t)~U16550_MCR_LOOP_BACK);
+}
+
+/*
+ * Waits for room, and sends a byte.
+ *
+ * Proved: a wait for room, and then the byte is written; or as many misses as the limit.
+ */
+static inline int uart_send_one(struct u16550_console *uart, uint8_t byte)
+{
+    if (!uart_wait_to_send(uart))
+        return U16550_CONSOLE_STALLED;
+    uart_device_write(UART_DATA, byte);
+    return U16550_CONSOLE_OK;
+}
+
+/* Returns what is sent for a byte of a text. */
+static void uart_tty_expand(uint8_t byte, struct uart_expansion *expansion)
+{
+    switch (byte) {
+    case '\b':
+    case 0x7f: {
+        struct uart_bytes3 bytes;
+        uart_copy_bytes(bytes.bytes, uart_erase_text, 3);
+        expansion->text = bytes;
+        expansion->len = 3;
+        return;
+    }
+    case '\n': {
+        struct uart_bytes3 bytes;
+        uart_copy_bytes(bytes.bytes, uart_newline_text, 3);
+        expansion->text = bytes;
+        expansion->len = 2;
+        return;
+    }
+    default: {
+        struct uart_bytes3 bytes;
+        bytes.bytes[0] = byte;
+        bytes.bytes[1] = 0;
+        bytes.bytes[2] = 0;
+        expansion->text = bytes;
+        expansion->len = 1;
+        return;
+    }
+    }
 }
 
 /*
@@ -959,34 +1025,6 @@ uart_send_singly(struct u16550_console *uart, const uint8_t *bytes, size_t bytes
     return U16550_CONSOLE_OK;
 }
 
-/* Returns what is sent for a byte of a text. */
-static struct uart_expansion uart_tty_expand(uint8_t byte)
-{
-    switch (byte) {
-    case '\b':
-    case 0x7f: {
-        struct uart_bytes3 bytes;
-        uart_copy_bytes(bytes.bytes, uart_erase_text, 3);
-        struct uart_expansion expansion = { bytes, 3 };
-        return expansion;
-    }
-    case '\n': {
-        struct uart_bytes3 bytes;
-        uart_copy_bytes(bytes.bytes, uart_newline_text, 3);
-        struct uart_expansion expansion = { bytes, 2 };
-        return expansion;
-    }
-    default: {
-        struct uart_bytes3 bytes;
-        bytes.bytes[0] = byte;
-        bytes.bytes[1] = 0;
-        bytes.bytes[2] = 0;
-        struct uart_expansion expansion = { bytes, 1 };
-        return expansion;
-    }
-    }
-}
-
 /*
  * Sends the expansion of a byte, and returns its length. Printable bytes have a branch of their
  * own, since most bytes of a text are printable, and that branch is short.
@@ -997,12 +1035,15 @@ static int
 uart_tty_send_expansion(struct u16550_console *uart, uint8_t byte, size_t *count, size_t *stalled_at)
 {
     if (byte >= ' ' && byte < 0x7f) {
-        if (uart_send_singly(uart, &byte, 1, stalled_at) != U16550_CONSOLE_OK)
+        if (uart_send_one(uart, byte) != U16550_CONSOLE_OK) {
+            *stalled_at = 0;
             return U16550_CONSOLE_STALLED;
+        }
         *count = 1;
         return U16550_CONSOLE_OK;
     }
-    struct uart_expansion expansion = uart_tty_expand(byte);
+    struct uart_expansion expansion;
+    uart_tty_expand(byte, &expansion);
     if (uart_send_singly(uart, expansion.text.bytes, expansion.len,
         stalled_at) != U16550_CONSOLE_OK) {
         return U16550_CONSOLE_STALLED;
@@ -1029,6 +1070,10 @@ uart_tty_write_raw_text(struct u16550_console *uart, const uint8_t *text, size_t
     size_t *stalled_at)
 {
     size_t done = 0;
+    /*
+     * An expansion may be three times as long as its text. So its length need not fit into a
+     * size_t, and the count of a stall ends at the largest one.
+     */
     for (size_t i = 0; i < text_len; i++) {
         size_t count;
         size_t sent;
@@ -1061,8 +1106,7 @@ int u16550_console_test_loopback(struct u16550_console *uart)
 
 int u16550_console_put(struct u16550_console *uart, uint8_t byte)
 {
-    size_t done;
-    return uart_send_singly(uart, &byte, 1, &done);
+    return uart_send_one(uart, byte);
 }
 
 int u16550_console_try_put(struct u16550_console *uart, uint8_t byte)
@@ -1073,7 +1117,10 @@ int u16550_console_try_put(struct u16550_console *uart, uint8_t byte)
 int u16550_console_get(struct u16550_console *uart)
 {
     uint8_t byte;
-    return uart_try_receive_byte(uart, &byte) ? byte : -1;
+    if (!uart_try_receive_byte(uart, &byte))
+        return -1;
+    /* Not by `?`, of which SDCC 4.2 makes a byte with a sign. */
+    return byte;
 }
 
 size_t u16550_console_send(struct u16550_console *uart, const uint8_t *bytes, size_t len)
@@ -1088,16 +1135,17 @@ int u16550_console_write_text(struct u16550_console *uart, const char *text, siz
     return uart_tty_write_raw_text(uart, (const uint8_t *)text, len, &done);
 }
 
-/* As u16550_emergency, which is by hand too. */
 int u16550_console_emergency(struct u16550_console *uart)
 {
-    const uint8_t no_text = U16550_LCR_DLAB | U16550_LCR_SET_BREAK;
-    uint8_t kept, lcr = uart_device_read(UART_LCR);
-    for (uint32_t writes = 0; writes < U16550_CONSOLE_POLLS && (lcr & no_text) != 0; writes++) {
-        uart_device_write(UART_LCR, (uint8_t)(lcr & ~no_text));
+    const uint8_t blocking = U16550_LCR_DLAB | U16550_LCR_SET_BREAK;
+    uint8_t lcr = uart_device_read(UART_LCR);
+    uint8_t kept;
+    /* A UART of DesignWare takes no new LCR while it is busy. */
+    for (uint32_t writes = 0; writes < U16550_CONSOLE_POLLS && (lcr & blocking) != 0; writes++) {
+        uart_device_write(UART_LCR, (uint8_t)(lcr & ~blocking));
         lcr = uart_device_read(UART_LCR);
     }
-    if ((lcr & no_text) != 0)
+    if ((lcr & blocking) != 0)
         return U16550_CONSOLE_DIVISOR_LATCH_OPEN;
     uart_device_write(UART_IER, 0);
     /* The other outputs stay: loopback and a flow control by the chip would hold text back. */
@@ -1115,3 +1163,34 @@ uint8_t u16550_console_lsr(struct u16550_console *uart)
 {
     return uart_lsr(uart);
 }
+
+/*
+ * Where code is to be small, gcc for PowerPC saves registers and returns by functions of its own library. A program that is linked without
+ * that library has them here. One that has them, as kernels do, takes its own. Two files that are compiled as one have them once.
+ */
+#if defined(__powerpc__) && !defined(__powerpc64__) && defined(__ELF__) && defined(__OPTIMIZE_SIZE__) && !defined(__clang__)
+#define UART_CALLERS_REGISTERS "14, 15, 16, 17, 18, 19, 20, 21, 22, 23, 24, 25, 26, 27, 28, 29, 30, 31"
+__asm__(".ifndef _restgpr_14_x\n"
+        ".pushsection .text.uart_restore, \"ax\", @progbits\n"
+        ".irp number, " UART_CALLERS_REGISTERS "\n"
+        ".weak _restgpr_\\number\\()_x\n"
+        ".hidden _restgpr_\\number\\()_x\n"
+        "_restgpr_\\number\\()_x: lwz \\number, 4 * (\\number - 32)(11)\n"
+        ".endr\n"
+        "lwz 0, 4(11)\n"
+        "mtlr 0\n"
+        "mr 1, 11\n"
+        "blr\n"
+        ".popsection\n"
+        ".endif\n"
+        ".ifndef _savegpr_14\n"
+        ".pushsection .text.uart_save, \"ax\", @progbits\n"
+        ".irp number, " UART_CALLERS_REGISTERS "\n"
+        ".weak _savegpr_\\number\n"
+        ".hidden _savegpr_\\number\n"
+        "_savegpr_\\number: stw \\number, 4 * (\\number - 32)(11)\n"
+        ".endr\n"
+        "blr\n"
+        ".popsection\n"
+        ".endif\n");
+#endif

@@ -34,6 +34,13 @@
 #define UART_SELDOM
 #endif
 
+/* For a switch of many cases: gcc for Cortex-M0 would make a table of it where code is to be small, and call its library for that. */
+#if defined(__GNUC__) && !defined(__clang__) && defined(__OPTIMIZE_SIZE__) && defined(__thumb__) && !defined(__thumb2__)
+#define UART_NO_TABLE __attribute__((__optimize__("no-jump-tables")))
+#else
+#define UART_NO_TABLE
+#endif
+
 
 /* The number of data bits of a character. */
 enum uart_word_length {
@@ -933,7 +940,8 @@ static inline bool uart_chip_has_modem_changes(const struct uart_chip *uart_chip
 }
 
 /* Returns the interrupt of the highest priority among those that are enabled and pending. */
-static struct uart_maybe_interrupt_type uart_pending_interrupt(const struct uart_chip *parts)
+static UART_NO_TABLE struct uart_maybe_interrupt_type
+uart_pending_interrupt(const struct uart_chip *parts)
 {
     uint8_t enabled = uart_chip_ier(parts);
     struct uart_maybe_interrupt_type found;
@@ -1661,7 +1669,7 @@ static inline uint8_t uart_chip_read_modem(struct uart_chip *uart_chip)
     return uart_modem_read(&uart_chip->modem);
 }
 
-static UART_APART uint8_t uart_read_register(struct uart_chip *parts, uint8_t offset)
+static UART_APART UART_NO_TABLE uint8_t uart_read_register(struct uart_chip *parts, uint8_t offset)
 {
     switch (offset) {
     case UART_OFFSET_DATA:
@@ -3014,7 +3022,8 @@ static inline void uart_control_modem(struct uart_chip *parts, uint8_t value)
     uart_chip_renew_modem(parts, mcr);
 }
 
-static UART_APART void uart_write_register(struct uart_chip *parts, uint8_t offset, uint8_t value)
+static UART_APART UART_NO_TABLE void
+uart_write_register(struct uart_chip *parts, uint8_t offset, uint8_t value)
 {
     switch (offset) {
     case UART_OFFSET_DATA:
@@ -3839,3 +3848,55 @@ uint32_t uart_chip_from_bytes(struct uart_chip *saved, const uint8_t *bytes, siz
         *saved = chip;
     return from.status;
 }
+
+/*
+ * A product of 16 bits by shifts: processors of the family MSP430 have no instruction for it, and a compiler calls this function. A program
+ * that is linked with the library of its compiler may take that one's.
+ */
+#if defined(__MSP430__) || defined(UART_BY_SHIFTS)
+#if defined(__cplusplus)
+extern "C"
+#endif
+uint16_t __mspabi_mpyi(uint16_t one, uint16_t other);
+
+__attribute__((__weak__)) uint16_t __mspabi_mpyi(uint16_t one, uint16_t other)
+{
+    uint16_t product = 0;
+    for (; other != 0; one = (uint16_t)(one << 1), other = (uint16_t)(other >> 1)) {
+        if ((other & 1) != 0)
+            product = (uint16_t)(product + one);
+    }
+    return product;
+}
+#endif
+
+/*
+ * Where code is to be small, gcc for PowerPC saves registers and returns by functions of its own library. A program that is linked without
+ * that library has them here. One that has them, as kernels do, takes its own. Two files that are compiled as one have them once.
+ */
+#if defined(__powerpc__) && !defined(__powerpc64__) && defined(__ELF__) && defined(__OPTIMIZE_SIZE__) && !defined(__clang__)
+#define UART_CALLERS_REGISTERS "14, 15, 16, 17, 18, 19, 20, 21, 22, 23, 24, 25, 26, 27, 28, 29, 30, 31"
+__asm__(".ifndef _restgpr_14_x\n"
+        ".pushsection .text.uart_restore, \"ax\", @progbits\n"
+        ".irp number, " UART_CALLERS_REGISTERS "\n"
+        ".weak _restgpr_\\number\\()_x\n"
+        ".hidden _restgpr_\\number\\()_x\n"
+        "_restgpr_\\number\\()_x: lwz \\number, 4 * (\\number - 32)(11)\n"
+        ".endr\n"
+        "lwz 0, 4(11)\n"
+        "mtlr 0\n"
+        "mr 1, 11\n"
+        "blr\n"
+        ".popsection\n"
+        ".endif\n"
+        ".ifndef _savegpr_14\n"
+        ".pushsection .text.uart_save, \"ax\", @progbits\n"
+        ".irp number, " UART_CALLERS_REGISTERS "\n"
+        ".weak _savegpr_\\number\n"
+        ".hidden _savegpr_\\number\n"
+        "_savegpr_\\number: stw \\number, 4 * (\\number - 32)(11)\n"
+        ".endr\n"
+        "blr\n"
+        ".popsection\n"
+        ".endif\n");
+#endif

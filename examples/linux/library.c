@@ -3,10 +3,7 @@
  * The library as a part of this module: u16550.c, with the kernel's types in place of those of the
  * C compiler's headers.
  */
-#include <linux/limits.h>
 #include <linux/types.h>
 
-#define UINT16_MAX U16_MAX
-#define UINT32_C(number) number##U
 #define U16550_HAS_TYPES
 #include "u16550.c"

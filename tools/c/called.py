@@ -36,8 +36,17 @@ FUNCTIONS = {
 }
 # Functions that only call another one, which stands in the place of their calls; and those that are another one, which is called instead.
 PASSED_ON = {"uart_isr_interrupt_type"}
-# Functions whose one value stands in the place of their calls: each field of a register is set once.
-WRITTEN_OUT = {"uart_lcr_with_word_length", "uart_lcr_with_parity", "uart_fcr_with_trigger_level"}
+# Functions whose one value stands in the place of their calls: each field of a register is set once, and what may be asked for is asked where it
+# is done.
+WRITTEN_OUT = {
+    "uart_lcr_with_word_length",
+    "uart_lcr_with_parity",
+    "uart_fcr_with_trigger_level",
+    "uart_is_present",
+    "uart_is_emptied",
+    "uart_is_first",
+    "uart_is_last",
+}
 SAME = {"uart_read_plain": "uart_read_register"}
 # Members of structs, by their crate and name.
 MEMBERS = {("uart_16550", "Expansion"): ["text", "len"]}
@@ -54,7 +63,7 @@ TABLES: dict[tuple[int, ...], str] = {
 # Variables, by the function and the name that they would have.
 VARIABLES = {
     ("uart_half_bits_of_character", "number"): "parity",
-    ("uart_lcr_of_config", "lcr2"): "word_length",
+    ("uart_lcr_of_config", "lcr2"): "length_bits",
     ("uart_lcr_of_config", "frame"): "lcr",
     ("uart_level_of", "fifo_trigger_level"): "level",
     ("uart_level_of", "fifo_trigger_level2"): "none",
@@ -126,6 +135,15 @@ CODES: dict[str, dict[int, tuple[str, ...]]] = {
     "uart_fcr_of_trigger_level": {code << 6: (f"FCR_TRIGGER_{level}",) for code, level in enumerate((1, 4, 8, 14))},
 }
 # Numbers, by the function and how large they are. One that is in limits.h has its name there.
+CODES_OF_INTERRUPTS = {
+    0x00: "UART_CODE_MODEM_STATUS",
+    0x02: "UART_CODE_THR_EMPTY",
+    0x04: "UART_CODE_DATA_READY",
+    0x06: "UART_CODE_LINE_STATUS",
+    0x0A: "UART_CODE_DMA_TX_END",
+    0x0C: "UART_CODE_TIMEOUT",
+    0x0E: "UART_CODE_DMA_RX_END",
+}
 NANOSECONDS = {1_000_000_000: "UART_NANOSECONDS_PER_SECOND"}
 NUMBERS: dict[str, dict[int, str]] = {
     "uart_config_is_computable": {15: "UART_MAX_PRESCALER"},
@@ -141,20 +159,57 @@ NUMBERS: dict[str, dict[int, str]] = {
     "uart_config_nanoseconds_covering": NANOSECONDS,
     "uart_config_nanoseconds_within": NANOSECONDS,
     "uart_new_with_backend": {1_000_000: "UART_DEFAULT_SPIN_LIMIT", 1_843_200: "UART_DEFAULT_FREQUENCY"},
-    "uart_design_ware_keep_waiting": {64: "UART_KEPT"},
+    "uart_design_ware_keep_waiting": {64: "UART_MOST_KEPT"},
     "uart_ring_look_once_more": {0xFF: "UART_ALL_INTERRUPTS"},
     "uart_ring_try_handle": {0xFF: "UART_ALL_INTERRUPTS"},
     "uart_ring_lower_line": {0xFF: "UART_ALL_INTERRUPTS"},
-    "uart_interrupt_type_from_bits": {
-        0x00: "UART_CODE_MODEM_STATUS",
-        0x02: "UART_CODE_THR_EMPTY",
-        0x04: "UART_CODE_DATA_READY",
-        0x06: "UART_CODE_LINE_STATUS",
-        0x0A: "UART_CODE_DMA_TX_END",
-        0x0C: "UART_CODE_TIMEOUT",
-        0x0E: "UART_CODE_DMA_RX_END",
-        0x0F: "UART_CODE",
-    },
+    "uart_interrupt_type_to_bits": CODES_OF_INTERRUPTS,
+    "uart_interrupt_type_from_bits": {**CODES_OF_INTERRUPTS, 0x0F: "UART_CODE"},
+}
+# Numbers that have one name in C, and in the source another one in each place.
+SAME_NUMBERS = {
+    "UART_CAUSE": "UART_CODE",
+    "UART_SERVING_NONE": "UART_CODE_NONE",
+    "UART_SERVING_DATA": "UART_CODE_DATA_READY",
+    "UART_TIMEOUT": "UART_CODE_TIMEOUT",
+    "UART_BUSY_DETECT": "UART_CODE_BUSY_DETECT",
+    "UART_BUSY": "UART_USR_BUSY",
+    "UART_KEPT": "UART_MOST_KEPT",
+    "UART_ROUNDS": "UART_MOST_ENDED",
+    "UART_FLOOD": "UART_FLOOD_LENGTH",
+}
+# The numbers of a file in groups, each under what they are about.
+NUMBER_GROUPS = (
+    ("The clock.", "DEFAULT_FREQUENCY SAMPLES_PER_BIT MAX_PRESCALER NANOSECONDS_PER_SECOND MOST_32 MOST_64"),
+    ("Waits, and the FIFOs.", "DEFAULT_SPIN_LIMIT FIFO_SIZE MOST_WAITING FLOOD_LENGTH"),
+    ("Is there a chip, and does it work.", "FIRST_PATTERN SECOND_PATTERN UNDRIVEN TEST_BYTE"),
+    (
+        "The low four bits of ISR: which interrupt is pending. The last one is a DesignWare UART's.",
+        "CODE CODE_NONE CODE_MODEM_STATUS CODE_THR_EMPTY CODE_DATA_READY CODE_LINE_STATUS CODE_TIMEOUT CODE_DMA_RX_END CODE_DMA_TX_END"
+        " CODE_BUSY_DETECT",
+    ),
+    ("The rings.", "MAX_CAPACITY MAX_INTERRUPTS LEAST_LIMIT ALL_INTERRUPTS XON XOFF"),
+    ("A DesignWare UART.", "USR_BUSY MOST_KEPT MOST_ENDED"),
+)
+# What is said of numbers that the source says nothing of, or says it of several.
+ABOUT_NUMBERS = {
+    "UART_DEFAULT_FREQUENCY": "Of a PC, in hertz.",
+    "UART_SAMPLES_PER_BIT": "The receiver looks so often at a bit: the clock is divided by this too.",
+    "UART_MAX_PRESCALER": "The prescaler has four bits, and divides by one more than they say.",
+    "UART_DEFAULT_SPIN_LIMIT": "Looks at a register until a wait has failed.",
+    "UART_CODE": "The bits themselves.",
+    "UART_FIFO_SIZE": "Of a 16550, in characters.",
+    "UART_TEST_BYTE": "What the loopback test sends first.",
+    "UART_XON": "Flow control by characters: go on, and stop.",
+    "UART_USR_BUSY": "The bit of USR.",
+}
+# What the definition that a function is proved by says of more than the function: each has a divisor already, or one byte.
+PROVED = {
+    **dict.fromkeys(("uart_set_up", "uart_set_up_with"), ("Or nothing is done, if there is no divisor; or all", "Or all")),
+    "uart_send_one": (
+        "these bytes, one by one: all of them, or a beginning",
+        "a wait for room, and then the byte is written; or as many misses as the limit",
+    ),
 }
 # What a value is called that an option has, or else another one.
 CHOSEN = {"prescaler_division_factor": "prescaler", "factor": "prescaler"}

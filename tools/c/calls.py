@@ -375,18 +375,18 @@ SHARED = [
 VALUES = [
     Value("const struct u16550_config *config", "uart_decode_computable(config, &decoded)", "decoded", "struct u16550_core_config decoded"),
     Value("const struct u16550_setup *setup", "uart_decode_setup(setup, &setup_of)", "&setup_of", "struct uart_setup setup_of"),
-    Value("const struct u16550_dump *dump", "uart_if(dump == NULL, U16550_NULL_POINTER)", "dump"),
+    Value("const struct u16550_dump *dump", ("dump == NULL", "U16550_NULL_POINTER"), "dump"),
     Value("uint8_t on", "uart_check_flag(on)", "on == 1"),
     Value("uint8_t characters", "uart_decode_fifo_trigger_level(characters, &level)", "level", "uint8_t level"),
     Value("uint8_t fifos", "uart_check_fifo_action(fifos)", "fifos"),
     Value("uint16_t fifo_size", "uart_decode_fifo_size(fifo_size, &size)", "size", "uint8_t size"),
-    Value("uint64_t limit", "uart_if(limit == 0, U16550_ZERO_LIMIT)", "limit"),
+    Value("uint64_t limit", ("limit == 0", "U16550_ZERO_LIMIT"), "limit"),
     Value("const uint8_t *urgent", "uart_decode_urgent(urgent, &urgent_byte)", "urgent_byte", "struct u16550_core_maybe_u8 urgent_byte"),
     Value("const uint8_t *first", "uart_array(first, first_len, 1, 1)", "first"),
     Value("const uint8_t *second", "uart_array(second, second_len, 1, 1)", "second"),
     Value("const uint8_t *buffer", "uart_array(buffer, len, 1, 1)", "buffer"),
     Value("uint8_t *buffer", "uart_array(buffer, len, 1, 1)", "buffer"),
-    Value("uint8_t (*keep_waiting)(void *context), void *context", "uart_if(keep_waiting == NULL, U16550_NULL_POINTER)", "&patience",
+    Value("uint8_t (*keep_waiting)(void *context), void *context", ("keep_waiting == NULL", "U16550_NULL_POINTER"), "&patience",
           "struct uart_patience patience = { keep_waiting, context }"),
     Value("struct u16550_received *received, size_t len", "uart_array(received, len, sizeof(struct u16550_received), 1)", "received, len"),
 ]
@@ -414,19 +414,19 @@ driver that is there is not done, they return U16550_BUSY. The driver has the de
             ByHand("new", "struct u16550 *uart, const struct u16550_io *io"),
         ]),
         Group("A driver whose functions get ports, from base on. Refused by U16550_BAD_BASE if base + 7 is above 65535.", [
-            ByHand("new_port", "struct u16550 *uart, const struct u16550_io *io, uint16_t base"),
+            ByHand("new_port", "struct u16550 *uart, const struct u16550_io *io, uint16_t base", errors="BAD_BASE"),
         ]),
         Group("""
 A driver whose functions get addresses of memory, from base on and stride apart. Refused by U16550_BAD_STRIDE if stride
 is no power of two, else by U16550_BAD_BASE if base is 0 or base + 7 * stride is too large.""", [
-            ByHand("new_mmio", "struct u16550 *uart, const struct u16550_io *io, uintptr_t base, uint8_t stride"),
+            ByHand("new_mmio", "struct u16550 *uart, const struct u16550_io *io, uintptr_t base, uint8_t stride", errors="BAD_BASE BAD_STRIDE"),
         ]),
         Group("""
 A driver for registers in memory that the library accesses itself, by functions of its own, which u16550_get_io returns.
 Each access is one load or store of the width of the layout, in order: with a barrier before and behind it on architectures that need
 one. A read gives the lowest eight bits of a register, and a write sets the others to 0. Refused by U16550_BAD_WIDTH, by
 U16550_BAD_CODE if the byte order is none, else as u16550_new_mmio, else by U16550_STRIDE_TOO_SMALL or U16550_MISALIGNED_BASE.""", [
-            ByHand("new_mmio_wide", "struct u16550 *uart, uintptr_t base, const struct u16550_layout *layout"),
+            ByHand("new_mmio_wide", "struct u16550 *uart, uintptr_t base, const struct u16550_layout *layout", errors="address_error"),
         ]),
         Group("""
 A driver for a UART of Synopsys' DesignWare, as Rockchip, Allwinner, StarFive, Intel and others have it. Such a chip ignores a write of
@@ -440,13 +440,13 @@ memory as for u16550_new_mmio_wide. Each driver has its own chip, which is in no
                    "struct u16550 *uart, struct u16550_design_ware *chip, const struct u16550_io *io, uint64_t patience"),
             ByHand("new_mmio_design_ware",
                    "struct u16550 *uart, struct u16550_design_ware *chip, uintptr_t base, const struct u16550_layout *layout, "
-                   "uint64_t patience"),
+                   "uint64_t patience", errors="address_error"),
         ]),
         Group("""
 What went wrong since the last write of LCR that the chip took, as an enum u16550_design_ware_fault, or U16550_OK. After a fault the
 chip's interrupts are off, whatever is written to IER. The calls return no error for it: u16550_check_configured does. Makes no access.
 U16550_NOT_MADE if the driver has another chip.""", [
-            ByHand("design_ware_fault", "struct u16550 *uart, struct u16550_design_ware *chip"),
+            ByHand("design_ware_fault", "struct u16550 *uart, struct u16550_design_ware *chip", errors="design_ware_fault"),
         ]),
         Group("A driver in this state, whose functions get offsets.", [
             ByHand("from_state", "struct u16550 *uart, const struct u16550_io *io, const struct u16550_state *state"),
@@ -465,9 +465,10 @@ Writes the default: no interrupts, 1843200 Hz, 9600 baud, FIFO with trigger leve
         Group("""
 Writes the configuration with the frequency at which the nearest divisor gives its baud rate exactly, if that differs from
 its frequency by at most so many thousandths. u16550_init and u16550_set_frame accept it, and write the nearest divisor. The
-line then has a rate that differs by as many thousandths at most. Receivers tolerate about 20, of both sides together.
+line then has a rate that differs by as many thousandths at most. The two sides of a line may be some 45 thousandths
+apart, so 20 for each is usual.
 Returns an enum u16550_nearest_error if there is none. nearest may be config.""", [
-            ByHand("nearest", "const struct u16550_config *config, uint32_t per_mille, struct u16550_config *nearest"),
+            ByHand("nearest", "const struct u16550_config *config, uint32_t per_mille, struct u16550_config *nearest", errors="nearest_error"),
         ]),
         Group("", [
             ByHand("get_io", "struct u16550 *uart, struct u16550_io *io"),
@@ -557,7 +558,7 @@ with other outputs. If the wait that comes first ends by U16550_INIT_STALLED, no
         Group("""
 Tests the chip in loopback. Returns an enum u16550_loopback_error if it fails; *failure then has what came back. failure
 may be null.""", [
-            ByHand("test_loopback", "struct u16550 *uart, struct u16550_loopback_failure *failure"),
+            ByHand("test_loopback", "struct u16550 *uart, struct u16550_loopback_failure *failure", errors="loopback_error"),
         ]),
         Group("""
 Finds how many characters the FIFOs hold as they are set up now, for u16550_set_fifo_size, which it does not call: 16, 32, 64,
@@ -579,7 +580,7 @@ Whether the chip shows what was written to it: the frame, these outputs, which a
 divisor, and whether the FIFOs are on. Call it after a call that sets the chip up, if the chip may ignore a write. Returns an
 enum u16550_configuration_error if a register differs; *difference then has both values. difference may be null. It reads the
 latch only if LCR shows DLAB, writes LCR back, and is without interrupts while it reads ISR.""", [
-            ByHand("check_configured", "struct u16550 *uart, uint8_t outputs, struct u16550_difference *difference"),
+            ByHand("check_configured", "struct u16550 *uart, uint8_t outputs, struct u16550_difference *difference", errors="configuration_error"),
         ]),
         Group("Whether a remote is there and ready to receive. Returns an enum u16550_remote_error if not.", [
             Call("check_connected", "struct u16550 *uart", error="RemoteReadyToReceiveError"),
@@ -631,7 +632,7 @@ Whoever accessed the device before must not go on: mask the interrupts, and stop
 
 Returns U16550_ATTACH_DIVISOR_LATCH_OPEN if DLAB or the break stays set after as many writes as the spin limit, as where no
 device is, and U16550_ATTACH_LOOPBACK if the chip stays in loopback. Refused by U16550_HAS_RINGS if the driver has rings.""", [
-            ByHand("emergency", "struct u16550 *uart"),
+            ByHand("emergency", "struct u16550 *uart", errors="ATTACH_DIVISOR_LATCH_OPEN ATTACH_LOOPBACK"),
         ]),
     ]),
     Section("outputs", "on is 0 or 1; another number is refused by U16550_BAD_CODE.", [
@@ -719,10 +720,10 @@ u16550_check_present, which writes SPR, tells it.""", [
 Sends a text as terminals expect it: a line feed as carriage return and line feed, backspace and delete as backspace,
 space and backspace. The text is UTF-8, and needs no zero at its end. After U16550_STALLED *done is how many bytes were
 sent. done may be null.""", [
-            ByHand("write_text", "struct u16550 *uart, const char *text, size_t len, size_t *done"),
+            ByHand("write_text", "struct u16550 *uart, const char *text, size_t len, size_t *done", errors="STALLED", stalls="done"),
         ]),
         Group("The same for a text that need not be UTF-8.", [
-            ByHand("write_raw_text", "struct u16550 *uart, const char *text, size_t len, size_t *done"),
+            ByHand("write_raw_text", "struct u16550 *uart, const char *text, size_t len, size_t *done", errors="STALLED", stalls="done"),
         ]),
     ]),
     Section("registers", "", [
@@ -754,8 +755,9 @@ leaves before ISR has shown that none is pending, and after the interrupt was ma
         ]),
         Group("""
 The divisor of a dump, and the baud rate that it gives with the frequency and the prescaler of a configuration.""", [
-            ByHand("dump_divisor", "const struct u16550_dump *dump, uint16_t *divisor"),
-            ByHand("dump_baud_rate", "const struct u16550_dump *dump, const struct u16550_config *config, uint32_t *baud_rate"),
+            ByHand("dump_divisor", "const struct u16550_dump *dump, uint16_t *divisor", gives="divisor"),
+            ByHand("dump_baud_rate", "const struct u16550_dump *dump, const struct u16550_config *config, uint32_t *baud_rate",
+                   errors="baud_rate_error", gives="baud_rate"),
         ]),
     ]),
     Section("a bus of two wires, as RS-485", """
@@ -766,13 +768,13 @@ transceiver takes, and between the end of the last byte and try_finish about a b
         Group("""
 The outputs with the line as it is to be while the transceiver receives. Give them to u16550_init_with: u16550_init raises RTS and DTR, and
 this end might hold the bus.""", [
-            ByHand("direction_receiving", "const struct u16550_direction *direction, uint8_t outputs, uint8_t *receiving"),
+            ByHand("direction_receiving", "const struct u16550_direction *direction, uint8_t outputs, uint8_t *receiving", gives="receiving"),
         ]),
         Group("""
 Makes a bus of a driver that is set up: makes the accesses of u16550_bus_try_finish, and there is no driver in the memory of the driver any
 more. Returns U16550_BUS_BUSY if the transmitter is not empty; the driver then stays. Refused by U16550_HAS_RINGS if it has rings. If a call
 over a bus that is there is not done, it returns U16550_BUSY.""", [
-            ByHand("bus_new", "struct u16550_bus *bus, struct u16550 *uart, const struct u16550_direction *direction"),
+            ByHand("bus_new", "struct u16550_bus *bus, struct u16550 *uart, const struct u16550_direction *direction", errors="BUS_BUSY"),
         ]),
         Group("""
 Ends a bus, and makes a driver of it again, in this memory, as the constructors do: for other calls, as u16550_set_frame. Makes no access.
@@ -785,27 +787,29 @@ The direction stays as it is, so finish before.""", [
         Group("""
 Gives the bus back if the transmitter is empty: reads LSR once, and then MCR, which it writes with the line so that the transceiver
 receives. Returns U16550_BUS_BUSY if it is not empty, and the direction stays. Does not wait.""", [
-            ByHand("bus_try_finish", "struct u16550_bus *bus"),
+            ByHand("bus_try_finish", "struct u16550_bus *bus", errors="BUS_BUSY"),
         ]),
         Group("Whether the direction is to send. Makes no access.", [
-            ByHand("bus_is_sending", "struct u16550_bus *bus, uint8_t *sending"),
+            ByHand("bus_is_sending", "struct u16550_bus *bus, uint8_t *sending", gives="sending"),
         ]),
         Group("As u16550_flush and u16550_is_idle: a wait until the transmitter is empty, and a look at it. The direction stays.", [
-            ByHand("bus_flush", "struct u16550_bus *bus"),
-            ByHand("bus_is_idle", "struct u16550_bus *bus, uint8_t *idle"),
+            ByHand("bus_flush", "struct u16550_bus *bus", errors="STALLED"),
+            ByHand("bus_is_idle", "struct u16550_bus *bus, uint8_t *idle", gives="idle"),
         ]),
         Group("""
 As u16550_send_bytes and u16550_send_bytes_exact. Both return U16550_BUS_NOT_SENDING, without an access, if the direction is not to send;
 *done is 0 then, and after U16550_STALLED how many bytes were written. done may be null.""", [
-            ByHand("bus_send_bytes", "struct u16550_bus *bus, const uint8_t *buffer, size_t len, size_t *count"),
-            ByHand("bus_send_bytes_exact", "struct u16550_bus *bus, const uint8_t *buffer, size_t len, size_t *done"),
+            ByHand("bus_send_bytes", "struct u16550_bus *bus, const uint8_t *buffer, size_t len, size_t *count",
+                   errors="BUS_NOT_SENDING", gives="count"),
+            ByHand("bus_send_bytes_exact", "struct u16550_bus *bus, const uint8_t *buffer, size_t len, size_t *done",
+                   errors="BUS_NOT_SENDING STALLED", stalls="done"),
         ]),
         Group("""
 As u16550_receive_bytes, u16550_receive_with_errors and u16550_lsr, in either direction. If the board hears what this end sends, those bytes
 are received too.""", [
-            ByHand("bus_receive_bytes", "struct u16550_bus *bus, uint8_t *buffer, size_t len, size_t *count"),
-            ByHand("bus_receive_with_errors", "struct u16550_bus *bus, struct u16550_received *received, size_t len, size_t *count"),
-            ByHand("bus_lsr", "struct u16550_bus *bus, uint8_t *value"),
+            ByHand("bus_receive_bytes", "struct u16550_bus *bus, uint8_t *buffer, size_t len, size_t *count", gives="count"),
+            ByHand("bus_receive_with_errors", "struct u16550_bus *bus, struct u16550_received *received, size_t len, size_t *count", gives="count"),
+            ByHand("bus_lsr", "struct u16550_bus *bus, uint8_t *value", gives="value"),
         ]),
     ]),
     Section("rings, for use with interrupts", """
@@ -821,7 +825,7 @@ u16550_retrigger_interrupts. examples/console.c is such a handler.""", [
 Gives a driver rings for so many bytes to be sent and so many received bytes, in this memory of size bytes. The memory is
 the rings' until u16550_ring_end or u16550_end, or until another driver is made in the place of this one. Refused by an
 enum u16550_ring_error.""", [
-            ByHand("ring_new", "struct u16550 *uart, uint8_t *memory, size_t size, size_t tx_capacity, size_t rx_capacity"),
+            ByHand("ring_new", "struct u16550 *uart, uint8_t *memory, size_t size, size_t tx_capacity, size_t rx_capacity", errors="ring_error"),
         ]),
         Group("Ends the rings, with the bytes in them. The driver stays.", [
             ByHand("ring_end", "struct u16550 *uart"),
@@ -874,7 +878,7 @@ U16550_RING_BAD_CAPACITY. It makes no access, and no call makes another one for 
 The notes lie between the driver and its functions until u16550_end_notes or u16550_end, and are in no other use so long; their
 memory too. Meanwhile u16550_get_io returns functions of the library, u16550_set_io is to be given no others, and
 u16550_design_ware_fault finds no chip. u16550_end_notes gives the driver its functions back.""", [
-            ByHand("note_errors", "struct u16550 *uart, struct u16550_notes *notes, uint8_t *memory, size_t capacity"),
+            ByHand("note_errors", "struct u16550 *uart, struct u16550_notes *notes, uint8_t *memory, size_t capacity", errors="RING_BAD_CAPACITY"),
             ByHand("end_notes", "struct u16550 *uart"),
         ]),
         Group("""
@@ -887,7 +891,8 @@ empty; else errors stand at the wrong bytes until all bytes of the ring are take
 
 Returns U16550_RING_UNNOTED if fewer errors are noted than bytes are in the receive ring: the notes have room for fewer, or were
 made later. Then nothing is taken, and *count is how many bytes at the front have no note: u16550_ring_take takes them.""", [
-            ByHand("ring_take_with_errors", "struct u16550 *uart, struct u16550_received *received, size_t len, size_t *count"),
+            ByHand("ring_take_with_errors", "struct u16550 *uart, struct u16550_received *received, size_t len, size_t *count",
+                   errors="RING_UNNOTED", gives="count"),
         ]),
         Group("""
 Holds the other end back by RTS, or lets it go on: RTS goes off if there is room for fewer received bytes than hold, and on if there
@@ -937,7 +942,7 @@ the limit is 32.""", [
                  error="StuckError"),
         ]),
         Group("Whether the chip is stuck, and what ISR showed.", [
-            ByHand("ring_stuck", "struct u16550 *uart, struct u16550_stuck *stuck"),
+            ByHand("ring_stuck", "struct u16550 *uart, struct u16550_stuck *stuck", errors="stuck_error"),
         ]),
         Group("""
 Starts a chip again that is stuck: enables these interrupts, U16550_IER_DATA_READY not while receiving is paused, and sends
@@ -964,7 +969,7 @@ processor could let the line of one rise before that of the next has fallen, and
 
 If one of the ports has no driver or no rings, or a call at it is not done, the number of this is returned, and nothing was done
 at any.""", [
-            ByHand("line_handle", "struct u16550_line_port *ports, size_t count, size_t limit, uint32_t rounds, uint8_t *served"),
+            ByHand("line_handle", "struct u16550_line_port *ports, size_t count, size_t limit, uint32_t rounds, uint8_t *served", gives="served"),
         ]),
         Group("LSR or MSR, joined with the errors or changes that were noted since the last of these calls.", [
             Call("ring_take_line", "struct u16550 *uart, uint8_t *lsr", gives="lsr"),

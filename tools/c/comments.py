@@ -24,6 +24,7 @@ OTHERWISE = {
     "Custom(9600)": "U16550_CORE_BAUD_RATE_CUSTOM with 9600",
     "Baud9600": "U16550_CORE_BAUD_RATE_BAUD9600",
     "VecDeque::as_slices": "uart_byte_queue_parts",
+    "usize": "size_t",
     "usize::MAX": "SIZE_MAX",
     "LinePort::handled": "handled",
     "into_inner": "u16550_bus_end",

@@ -6,6 +6,7 @@ import re
 import sys
 
 import calls
+import compilers
 import driver
 import names
 import said
@@ -37,7 +38,7 @@ CALLED = [
             "try_receive_byte",
             "lsr",
             "set_modem_control",
-            "send_singly",
+            "send_one",
         )
     ),
     "uart_16550::tty::Uart16550Tty::write_raw_text",
@@ -73,6 +74,42 @@ NUMBERS: dict[str, dict[str, str | dict[str, str]]] = {
 }
 # What comments of the source say of a driver that may be configured in more ways.
 SAID = (
+    ("enables them if there is a level, and returns whether", "enables them, and returns whether"),
+    # Interrupts, which a console never enables, and changes of modem lines, which it does not tell.
+    (
+        "Interrupts are off from here on, until the last write of `init`. A handler would find a chip that is half set up, and while DLAB is set it"
+        " could reach neither data nor IER.",
+        "No interrupt comes from here on: a handler could reach neither data nor IER while DLAB is set.",
+    ),
+    (
+        "These reads come last, just before the interrupts are enabled: errors, changes of modem lines and a pending THR_EMPTY that were left over"
+        " would interrupt at once. Some arise in `init` itself: the write of MCR may have ended a loopback, and that changes modem lines. The read"
+        " of ISR matters on a chip that shows THR_EMPTY while IER is 0.",
+        "These reads clear what is left over: errors, changes of modem lines and a pending THR_EMPTY. Some arise in `init` itself: the write of MCR"
+        " may have ended a loopback, and that changes modem lines.",
+    ),
+    (
+        "On a PC the gate of the interrupt line is open while OUT2 is set.",
+        "OUT2 is for who enables interrupts later: on a PC it opens the gate of their line.",
+    ),
+    (
+        "Loopback connects the modem's inputs to the outputs. So the lines are read before.",
+        "Loopback connects the modem's inputs to the outputs: the changes from before are cleared here.",
+    ),
+    (
+        "The change bits that this read clears tell what the test did. What happened to the lines is found by comparing them with those before.",
+        "The change bits that this read clears tell what the test did.",
+    ),
+    (
+        " The first poll is separate, since it mostly finds one: then the limit is never read.",
+        " The first poll mostly finds one, and so stands before the loop.",
+    ),
+    (
+        "the FIFO step: FCR is written and, if a level is configured, ISR shows whether the FIFO is on",
+        "FCR is written, and ISR shows whether the FIFO is on",
+    ),
+    ("with interrupts off, and with FIFOs of this level, if there is one", "with interrupts off, and resets the FIFOs"),
+    ("and the FIFO step is made with this level", "and FCR is written, and ISR shows whether the FIFO is on"),
     (" No wait of `init` prevents that: call `flush` before, if it matters.", ""),
     (", and enables the configured interrupts", ", and enables no interrupt"),
     ("the statuses are read without being saved, and the interrupts enabled", "the statuses are read without being saved, and 0 is written to IER"),
@@ -100,7 +137,6 @@ SAID = (
     (": also if the remote is not clear to send", ""),
     (", or CTS is checked and the remote is not clear to send", ""),
     (" (`fifo_size`)", ""),
-    ("a FIFO of the size that is set holds", "the FIFO holds"),
     ("; `flush` of [`embedded_io`](crate::embedded_io) waits until all of it has left the chip", ""),
     (
         "The modem lines before and after the test are compared, and their changes saved for the next `msr`; of RI only its trailing edge. A line"
@@ -124,12 +160,15 @@ NAMED = {
     "check_present": "uart_check_present",
     "dll_dlm": "uart_dll_dlm",
     "ready_to_send": "uart_ready_to_send",
-    "send_bytes": "uart_send_bytes",
     "spin_limit": "U16550_CONSOLE_POLLS",
 }
 OK, STALLED = "U16550_CONSOLE_OK", "U16550_CONSOLE_STALLED"
+# The functions whose one value stands in the place of their calls: the level of the FIFOs is known.
+WRITTEN_OUT = {"uart_fcr_with_trigger_level", "uart_fcr_resetting_fifos"}
 # The structs that are made where they are returned, and not copied.
 LARGE = ("uart_bytes16",)
+# The functions that write a struct through a pointer of this name, where the source returns it: compilers for 8 bits, as SDCC, return none.
+BY_POINTER = {"uart_dll_dlm": "latch", "uart_tty_expand": "expansion"}
 # The members of the driver that a console has not.
 GONE = ("backend", "config", "fifo_size", "saved_msr", "spin_limit")
 
@@ -170,6 +209,10 @@ def made(folder: pathlib.Path | None) -> tuple[dict[str, str], Library]:
     if unused := library.said.unused(SAID):
         sys.exit(f"emit: console.py: no comment says {unused[0]!r}")
     text = driver_as_terminal(in_place_of_device(library.text()))
+    for name, pointer in BY_POINTER.items():
+        text = through_pointer(text, name, pointer, dict(library.types.declarations))
+    if found := re.search(r"(?m)^static (?:inline )?struct \w+\s(?!\*)", text):
+        sys.exit(f"emit: a function returns a struct: {found[0]}")
     layer = text_of("layer_console.c")
     text = called_by(text, layer)
     struct = next(one for name, one in library.types.declarations if f"struct {name}" == DRIVER)
@@ -184,16 +227,18 @@ def made(folder: pathlib.Path | None) -> tuple[dict[str, str], Library]:
         for name, value in sorted((library.bits | BITS).items(), key=driver.in_order)
         if re.search(rf"\b{name}\b", text + layer)
     ]
-    own_numbers = driver.numbers_of({name: value for name, value in library.numbers.items() if re.search(rf"\b{name}\b", text)})
     numbers = (
-        "\n/* Where the registers are, their bits, and numbers of the driver. */\nenum {\n" + ",\n".join(offsets + bits + own_numbers) + "\n};\n"
+        "\n/* Where the registers are, and their bits. */\nenum {\n" + ",\n".join(offsets + bits) + "\n};\n\n" + driver.numbers_of(library, text)
     )
     device = text_of("layer_console_top.c").replace("ACCESSES\n", accesses())
     of_source = "\n".join([TOP + numbers, device, "\n".join(own), text, layer])
     if f"~{FRAME}" in of_source or len(re.findall(rf"\b{FRAME}\b", of_source)) != 2:
         sys.exit(f"emit: {FRAME} is more than the frame of a console")
     of_source = of_source.replace(FRAME, ITS_NAME)
-    files = {"u16550_console.h": LICENCE + text_of("console_h.h").replace("STRUCT\n", shown + "\n"), "u16550_console.c": of_source}
+    files = {
+        "u16550_console.h": LICENCE + text_of("console_h.h").replace("STRUCT\n", shown + "\n"),
+        "u16550_console.c": compilers.with_limits(of_source) + compilers.functions(),
+    }
     return {name: one.replace(DRIVER, CONSOLE) for name, one in files.items()}, library
 
 
@@ -213,6 +258,30 @@ def in_place_of_device(text: str) -> str:
 def driver_as_terminal(text: str) -> str:
     """A text in which a terminal, which is a driver and nothing else, is one."""
     return re.sub(r"struct uart_tty \*tty\b", f"{DRIVER} *uart", text).replace("&tty->inner", "uart").replace("(tty, ", "(uart, ")
+
+
+def through_pointer(text: str, name: str, pointer: str, declarations: dict[str, str]) -> str:
+    """A text in which a function writes the members of its struct through a pointer."""
+    found = re.search(rf"(?m)^static ((?:inline )?)struct (\w+) {name}\(([^()]*)\)\n\{{\n([\s\S]*?)^\}}\n", text)
+    if not found:
+        sys.exit(f"emit: {name} returns no struct")
+    inline, struct, given, body = found.groups()
+    members = re.findall(r"\b(\w+)(?:\[\d+\])?;", declarations[struct])
+
+    def written(one: re.Match[str]) -> str:
+        sets = [f"{one[1]}{pointer}->{member} = {value.strip()};\n" for member, value in zip(members, one[3].split(","), strict=True)]
+        # A function ends behind its last statement.
+        return "".join(sets) + ("" if one.end() == len(body) else f"{one[1]}return;\n")
+
+    made = re.sub(rf"( +)struct {struct} (\w+) = \{{ ([^{{}}]*) \}};\n +return \2;\n", written, body)
+    parameters = ", ".join([*([] if given == "void" else [given]), f"struct {struct} *{pointer}"])
+    text = text[: found.start()] + f"static {inline}void {name}({parameters})\n{{\n{made}}}\n" + text[found.end() :]
+
+    def called(one: re.Match[str]) -> str:
+        arguments = ", ".join([*([one[3]] if one[3] else []), f"&{one[2]}"])
+        return f"{one[1]}struct {struct} {one[2]};\n{one[1]}{name}({arguments});\n"
+
+    return re.sub(rf"( +)struct {struct} (\w+) = {name}\(([^()]*)\);\n", called, text)
 
 
 def called_by(text: str, layer: str) -> str:
@@ -236,7 +305,7 @@ def translated(program: Program, source: names.Source, known: dict[Key, Known]) 
     library.types.failures, library.types.ok = {"StalledError": STALLED}, OK
     library.types.calls = frozenset(one.name for section in calls.SECTIONS for group in section.groups for one in group.calls)
     library.large, library.said = set(LARGE), Said(driver.NAMED | NAMED, (*SAID, *said.SAID))
-    library.passed_on = {"uart_device_read", "uart_device_write"}
+    library.passed_on, library.written_out = {"uart_device_read", "uart_device_write"}, WRITTEN_OUT
     library.types.put_into_header(("Named", OF_DRIVER.rsplit("::", 2)[0] + "::Uart16550", (DEVICE,)))
     for name in CALLED:
         try:

@@ -5,17 +5,21 @@ from __future__ import annotations
 import pathlib
 import re
 import sys
+import textwrap
 import tomllib
-from collections.abc import Iterator, Mapping
+from collections.abc import Iterator
 
+import called
 import calls
+import compilers
+import contracts
 import each
 import header
 import interface
 import names
 import parts
 import table
-from comments import Said
+from comments import WIDTH, Said
 from kit import program_of
 from library import Library, Unknown
 from port import named_in
@@ -25,6 +29,8 @@ from tree import DEVICE
 
 FOLDER = pathlib.Path(__file__).resolve().parent
 ROOT = FOLDER.parent.parent
+# What Frama-C gets beside the source.
+CONTRACTS = "tests/eva/contracts.h"
 # The crates whose functions stay functions in C.
 OWN = ("uart_spec", "uart_16550", "uart_design_ware", "uart_rs485", "uart_ring")
 # Types of the source that the header has already, part for part.
@@ -43,7 +49,7 @@ IN_HEADER = (RING, DESIGN_WARE, NOTES, BUS)
 # Functions that implement traits, by which callers call them; and one that is inside of a call of rings over notes of errors.
 OF_TRAITS = re.compile(r"::embedded_io::|::DesignWareBackend::|::ErrorNotesBackend::|::drop_taken$")
 # What the part of an error is called that C has behind a pointer.
-NAMED = {"done": "*stalled_at"}
+NAMED = {"done": "*stalled_at", "set_line": "uart_set_line"}
 # What is by hand, in front of what is made of the table, and behind the first part of it.
 GUARDS, BY_HAND = ["guards"], ["bottom", "memory", "design_ware", "notes", "bus"]
 TOP = f"""{header.LICENCE}/*
@@ -57,15 +63,8 @@ TOP = f"""{header.LICENCE}/*
  */
 #include "u16550.h"
 
-/* For a switch of many cases: gcc for Cortex-M0 would make a table of it where code is to be small, and call its library for that. */
-#if defined(__GNUC__) && !defined(__clang__) && defined(__OPTIMIZE_SIZE__) && defined(__thumb__) && !defined(__thumb2__)
-#define UART_NO_TABLE __attribute__((__optimize__("no-jump-tables")))
-#else
-#define UART_NO_TABLE
-#endif
-
-"""
-# The functions that have such a switch, or what is in the place of a call of one.
+{compilers.NO_TABLE}"""
+# The functions that have a switch of many cases, or what is in the place of a call of one.
 SWITCHES = ("uart_interrupt_type_from_bits", "uart_ring_serve", "uart_ring_serve_up_to")
 
 
@@ -103,7 +102,7 @@ def made(folder: pathlib.Path | None) -> tuple[dict[str, str], Library]:
     library.types.told, library.types.failures = interface.told()
     library.types.silent = set(calls.SILENT)
     library.types.calls = frozenset(one.name for section in calls.SECTIONS for group in section.groups for one in group.calls)
-    library.said = Said(NAMED, SAID)
+    library.said = library.types.said = Said(NAMED, SAID)
     library.words |= dict.fromkeys(SWITCHES, "static UART_NO_TABLE")
     interface.complete(library.types)
     for one in IN_HEADER:
@@ -129,7 +128,7 @@ def made(folder: pathlib.Path | None) -> tuple[dict[str, str], Library]:
     header_text = header.of_c(text_of("header_c.h"), version(), "\n".join(in_header), proved)
     source = [TOP + constants(library, header_text, "\n".join(texts)), "\n".join(own), *texts]
     of_source, of_header = parts.divided("\n".join(source), header_text)
-    return {"u16550.h": of_header, "u16550.c": of_source}, library
+    return {"u16550.h": of_header, "u16550.c": compilers.with_limits(of_source) + compilers.functions(), CONTRACTS: contracts.text(library)}, library
 
 
 def in_the_header(name: str, said: str) -> str:
@@ -148,10 +147,7 @@ def constants(library: Library, header_text: str, code: str) -> str:
     hidden = {name: value for name, value in library.bits.items() if name not in shown and re.search(rf"\b{name}\b", code)}
     bits = [f"    {name} = {value:#04x}" for name, value in sorted(hidden.items(), key=in_order)]
     return (
-        "/* Numbers of the driver. */\nenum {\n"
-        + ",\n".join(numbers_of(library.numbers))
-        + "\n};\n"
-        + "".join(macros_of(library.numbers))
+        numbers_of(library, code)
         + "\n/* Where the registers are. */\nenum {\n"
         + ",\n".join(offsets)
         + "\n};\n\n/* Bits of registers that the header does not need. */\nenum {\n"
@@ -165,11 +161,23 @@ def in_order(one: tuple[str, int]) -> list[str | int]:
     return [int(part) if part.isdigit() else part for part in re.split(r"(\d+)", one[0])]
 
 
-def numbers_of(numbers: Mapping[str, str]) -> list[str]:
-    """Numbers as members of an enum."""
-    return [f"    {name} = {value}" for name, value in sorted(numbers.items()) if "(" not in value]
-
-
-def macros_of(numbers: Mapping[str, str]) -> list[str]:
-    """Those that are more than an enum has where an int has 16 bits."""
-    return [f"#define {name} {f'({value})' if value.startswith('(') else value}\n" for name, value in sorted(numbers.items()) if "(" in value]
+def numbers_of(library: Library, code: str) -> str:
+    """The numbers of the source that the code names, in groups, with what is said of them. One that is more than an enum has where an int has 16
+    bits is a macro."""
+    out, left = list[str](), {name for name in library.numbers if re.search(rf"\b{name}\b", code)}
+    for about, members in called.NUMBER_GROUPS:
+        mine = [name for one in members.split() if (name := f"UART_{one}") in left]
+        left -= set(mine)
+        numbers, macros = list[str](), list[str]()
+        for name in mine:
+            value = library.numbers[name]
+            said = textwrap.wrap(called.ABOUT_NUMBERS.get(name, library.about_numbers.get(name, "")), WIDTH)
+            if "(" in value:
+                macros.append(header.comment("\n".join(said)) + f"#define {name} {f'({value})' if value.startswith('(') else value}\n")
+            else:
+                numbers.append(textwrap.indent(header.comment("\n".join(said)), "    ") + f"    {name} = {value}")
+        if mine:
+            out.append(f"/* {about} */\n{''.join(macros)}" + ("enum {\n" + ",\n".join(numbers) + "\n};\n" if numbers else ""))
+    if left:
+        sys.exit(f"emit: called.py has {min(left)} in none of its groups")
+    return "\n".join(out)

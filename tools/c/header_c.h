@@ -18,8 +18,8 @@
 #define U16550_H
 
 /*
- * A kernel without these headers defines U16550_HAS_TYPES, and has bool, size_t, offsetof, uintptr_t and uint8_t to uint64_t with
- * their limits itself.
+ * A kernel without these headers defines U16550_HAS_TYPES, and has bool, true, false, size_t, NULL, offsetof, uintptr_t and uint8_t to
+ * uint64_t itself.
  */
 #ifndef U16550_HAS_TYPES
 #include <stdbool.h>

@@ -11,7 +11,7 @@ import syntax as c
 from names import snake
 from representation import INT, Representation, Told
 from results import Form
-from table import Call, Enum, Value, Wrong
+from table import ByHand, Call, Enum, Value, Wrong
 
 PLACES = {"DRIVER": "&uart->ring.uart", "RING": "&uart->ring"}
 # How the alignment of what a pointer leads to is called in layer_bottom.c. A byte, and a struct of bytes, may be anywhere.
@@ -107,7 +107,8 @@ def codes(types: Representation) -> str:
             raise Wrong(f"calls.py: the numbers of {shared.enum} are not those from 0 on")
         last = number(max(values, key=lambda one: values[one]))
         out.append(
-            f"static int uart_check_{shared.enum}(uint8_t {shared.enum})\n{{\n    return uart_unless({shared.enum} <= {last}, U16550_BAD_CODE);\n}}\n"
+            f"static int uart_check_{shared.enum}(uint8_t {shared.enum})\n{{\n    if ({shared.enum} > {last})\n        return U16550_BAD_CODE;\n"
+            "    return U16550_OK;\n}\n"
         )
     return "\n".join(out)
 
@@ -139,7 +140,7 @@ def all_calls() -> list[Call]:
     return [one for section in calls.SECTIONS for group in section.groups for one in group.calls if isinstance(one, Call)]
 
 
-def type_of(call: Call, name: str) -> str:
+def type_of(call: Call | ByHand, name: str) -> str:
     """The type of what a parameter points to."""
     found = next(one for one in call.parameters() if one.endswith(f"*{name}"))
     return found.removeprefix("const ").removesuffix(f"*{name}").strip()
@@ -150,7 +151,7 @@ def usable(call: Call, name: str) -> str:
     alignment = ALIGNMENTS.get(type_of(call, name))
     if name == call.stalls:
         return f"UART_ALIGNED({name}, {alignment})"
-    return f"UART_USABLE({name}, {alignment})" if alignment else f"uart_if({name} == NULL, U16550_NULL_POINTER)"
+    return f"UART_USABLE({name}, {alignment})"
 
 
 def values(call: Call) -> tuple[list[Value], list[str]]:
@@ -218,7 +219,7 @@ def body(call: Call, passed: list[str], forms: Forms) -> tuple[list[str], str | 
     if call.stalls:
         return [f"status = {made};"], "status", [(call.stalls, f"status == U16550_OK ? len : {outs[0]}")]
     if call.none and not call.error:
-        return [f"status = uart_unless({made}, {number(call.none)});"], "status", [(call.gives, outs[0])]
+        return [f"if (!{made})", f"    status = {number(call.none)};"], "status", [(call.gives, outs[0])]
     form = forms.get(proved_name(call))
     if call.error or outs or form and form.status is INT:
         value = f"uart_encode_{call.encode}({outs[0]})" if call.encode else outs[0] if outs else ""
@@ -226,7 +227,7 @@ def body(call: Call, passed: list[str], forms: Forms) -> tuple[list[str], str | 
     if call.gives:
         return [f"found = uart_encode_{call.encode}({made});" if call.encode else f"found = {made};"], None, [(call.gives, "found")]
     if call.false:
-        return [f"status = uart_unless({made}, {number(call.false)});"], "status", []
+        return [f"if (!{made})", f"    status = {number(call.false)};"], "status", []
     return [f"{made};"], None, []
 
 
@@ -239,10 +240,14 @@ def of_config(call: Call) -> bool:
     return call.parameters()[0] == "const struct u16550_config *config"
 
 
-def in_turn(tests: list[str]) -> list[str]:
-    """The lines that set the status by each test that follows on none that failed."""
-    first, *others = tests
-    return [f"    status = {first};", *(line for one in others for line in ("    if (status == U16550_OK)", f"        status = {one};"))]
+def in_turn(tests: Sequence[str | tuple[str, str]]) -> list[str]:
+    """The lines that set the status, which is that of no error, by each test that follows on none that failed."""
+    out = list[str]()
+    for order, one in enumerate(tests):
+        condition, status = one if isinstance(one, tuple) else ("", one)
+        asked = " && ".join([*(["status == U16550_OK"] if order else []), *([condition] if condition else [])])
+        out += [f"    if ({asked})", f"        status = {status};"] if asked else [f"    status = {status};"]
+    return out
 
 
 def entered(call: Call, written: list[tuple[str, str]]) -> list[str]:
@@ -252,6 +257,8 @@ def entered(call: Call, written: list[tuple[str, str]]) -> list[str]:
     if len(names) == 2:
         first = f"{names[0]} == NULL || {names[1]} == NULL ? U16550_NULL_POINTER : {enter}"
         lines = [f"    int status = {first};"]
+    elif names and not ALIGNMENTS.get(type_of(call, names[0])):
+        lines = [f"    int status = {names[0]} == NULL ? U16550_NULL_POINTER : {enter};"]
     elif names:
         lines = [f"    int status = {usable(call, names[0])};", "    if (status == U16550_OK)", f"        status = {enter};"]
     else:
@@ -278,9 +285,9 @@ def lines_of_config(call: Call, taken: list[Value], passed: list[str], forms: Fo
     """What a function over a configuration does. There is nothing to enter and to leave."""
     ((_, value),) = outs_of(call, forms)
     made = f"uart_config_{call.name}(&{', '.join([*passed, f'&{value}'])})"
-    tests = [made] if call.error else [f"uart_unless({made}, {number(call.none)})"]
+    tests: list[str | tuple[str, str]] = [made if call.error else (f"!{made}", number(call.none))]
     if call.error and call.none:
-        tests, value = [*tests, f"uart_unless({value}.is_some, {number(call.none)})"], f"{value}.value"
+        tests, value = [*tests, (f"!{value}.is_some", number(call.none))], f"{value}.value"
     first, *others = in_turn([usable(call, call.gives), *(rule.test for rule in taken)])
     lines = [f"    {one};" for one in locals_of(call, taken, forms)] + [f"    int {first.lstrip()}", *others]
     lines += ["    if (status != U16550_OK)", "        return status;", *in_turn(tests)]

@@ -127,10 +127,10 @@ static inline uintptr_t uart_times(uintptr_t number, uint8_t times)
 #if UART_MULTIPLIES >= 32
     return (uintptr_t)(number * times);
 #else
-    /* Not known to a compiler: clang would make a product of it again. */
-    volatile uint8_t known = times;
+    /* Hidden from the compiler: clang would make a product of this loop. */
+    volatile uint8_t hidden = times;
     uintptr_t product = 0;
-    for (times = known; times != 0; number = (uintptr_t)(number << 1), times >>= 1) {
+    for (times = hidden; times != 0; number = (uintptr_t)(number << 1), times >>= 1) {
         if ((times & 1) != 0)
             product = (uintptr_t)(product + number);
     }

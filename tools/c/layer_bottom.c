@@ -42,7 +42,9 @@ static int uart_decode_computable(const struct u16550_config *from, struct u1655
         status = uart_decode_config(from, to);
     if (status != U16550_OK)
         return status;
-    return uart_unless(uart_config_is_computable(to), U16550_NOT_COMPUTABLE);
+    if (!uart_config_is_computable(to))
+        return U16550_NOT_COMPUTABLE;
+    return U16550_OK;
 }
 
 static void uart_encode_config(const struct u16550_core_config *from, struct u16550_config *to)
@@ -129,7 +131,9 @@ static int uart_decode_urgent(const uint8_t *from, struct u16550_core_maybe_u8 *
 
 int u16550_check_layout(uint32_t first, uint32_t second, uint32_t third)
 {
-    return uart_unless(first == U16550_LAYOUT && second == U16550_LAYOUT && third == U16550_LAYOUT, U16550_OTHER_LAYOUT);
+    if (first != U16550_LAYOUT || second != U16550_LAYOUT || third != U16550_LAYOUT)
+        return U16550_OTHER_LAYOUT;
+    return U16550_OK;
 }
 
 /* Refuses functions that are not there. */
@@ -192,7 +196,9 @@ static int uart_check_place(uintptr_t base, uint8_t stride)
         return U16550_BAD_BASE;
     if (stride == 0 || (stride & (stride - 1)) != 0)
         return U16550_BAD_STRIDE;
-    return uart_if(base > UINTPTR_MAX - uart_distance(UART_SPR, stride), U16550_BAD_BASE);
+    if (base > UINTPTR_MAX - uart_distance(UART_SPR, stride))
+        return U16550_BAD_BASE;
+    return U16550_OK;
 }
 
 int (u16550_new)(struct u16550 *uart, const struct u16550_io *io)
@@ -202,7 +208,10 @@ int (u16550_new)(struct u16550 *uart, const struct u16550_io *io)
 
 int (u16550_new_port)(struct u16550 *uart, const struct u16550_io *io, uint16_t base)
 {
-    return uart_make(uart, io, base, 1, uart_if(base > UINT16_MAX - UART_SPR, U16550_BAD_BASE));
+    int refused = U16550_OK;
+    if (base > UINT16_MAX - UART_SPR)
+        refused = U16550_BAD_BASE;
+    return uart_make(uart, io, base, 1, refused);
 }
 
 int (u16550_new_mmio)(struct u16550 *uart, const struct u16550_io *io, uintptr_t base, uint8_t stride)
@@ -292,19 +301,23 @@ int u16550_check_configured(struct u16550 *uart, uint8_t outputs, struct u16550_
 /* Brings the chip into a state in which text goes out. */
 static int uart_take_over(struct u16550_core_driver *uart)
 {
-    const uint8_t no_text = U16550_LCR_DLAB | U16550_LCR_SET_BREAK;
-    uint8_t kept, lcr = uart_lcr(uart);
-    for (uint64_t writes = 0; writes < uart->spin_limit && (lcr & no_text) != 0; writes++) {
-        uart_device_write(&uart->backend, UART_LCR, (uint8_t)(lcr & ~no_text));
+    const uint8_t blocking = U16550_LCR_DLAB | U16550_LCR_SET_BREAK;
+    uint8_t lcr = uart_lcr(uart);
+    uint8_t kept;
+    /* A UART of DesignWare takes no new LCR while it is busy. */
+    for (uint64_t writes = 0; writes < uart->spin_limit && (lcr & blocking) != 0; writes++) {
+        uart_device_write(&uart->backend, UART_LCR, (uint8_t)(lcr & ~blocking));
         lcr = uart_lcr(uart);
     }
-    if ((lcr & no_text) != 0)
+    if ((lcr & blocking) != 0)
         return U16550_ATTACH_DIVISOR_LATCH_OPEN;
     uart_device_write(&uart->backend, UART_IER, 0);
     /* The other outputs stay: loopback and a flow control by the chip would hold text back. */
     kept = uart_mcr(uart) & (U16550_MCR_OUT_1 | U16550_MCR_OUT_2_INT_ENABLE);
     uart_set_modem_control(uart, kept | U16550_MCR_DTR | U16550_MCR_RTS);
-    return uart_if((uart_mcr(uart) & U16550_MCR_LOOP_BACK) != 0, U16550_ATTACH_LOOPBACK);
+    if ((uart_mcr(uart) & U16550_MCR_LOOP_BACK) != 0)
+        return U16550_ATTACH_LOOPBACK;
+    return U16550_OK;
 }
 
 int u16550_emergency(struct u16550 *uart)

@@ -122,7 +122,9 @@ int u16550_bus_try_finish(struct u16550_bus *bus)
     int status = uart_enter_bus(bus);
     if (status != U16550_OK)
         return status;
-    return uart_leave_bus(bus, uart_unless(uart_half_duplex_try_finish(&bus->bus), U16550_BUS_BUSY));
+    if (!uart_half_duplex_try_finish(&bus->bus))
+        status = U16550_BUS_BUSY;
+    return uart_leave_bus(bus, status);
 }
 
 int u16550_bus_flush(struct u16550_bus *bus)
@@ -180,7 +182,8 @@ int u16550_bus_send_bytes(struct u16550_bus *bus, const uint8_t *buffer, size_t 
     status = uart_array(buffer, len, 1, 1);
     if (status != U16550_OK)
         return uart_leave_bus(bus, status);
-    status = uart_unless(uart_half_duplex_send_bytes(&bus->bus, buffer, len, &sent), U16550_BUS_NOT_SENDING);
+    if (!uart_half_duplex_send_bytes(&bus->bus, buffer, len, &sent))
+        status = U16550_BUS_NOT_SENDING;
     uart_leave_bus(bus, status);
     if (status == U16550_OK)
         *count = sent;

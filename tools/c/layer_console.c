@@ -18,8 +18,7 @@ int u16550_console_test_loopback(struct u16550_console *uart)
 
 int u16550_console_put(struct u16550_console *uart, uint8_t byte)
 {
-    size_t done;
-    return uart_send_singly(uart, &byte, 1, &done);
+    return uart_send_one(uart, byte);
 }
 
 int u16550_console_try_put(struct u16550_console *uart, uint8_t byte)
@@ -30,7 +29,10 @@ int u16550_console_try_put(struct u16550_console *uart, uint8_t byte)
 int u16550_console_get(struct u16550_console *uart)
 {
     uint8_t byte;
-    return uart_try_receive_byte(uart, &byte) ? byte : -1;
+    if (!uart_try_receive_byte(uart, &byte))
+        return -1;
+    /* Not by `?`, of which SDCC 4.2 makes a byte with a sign. */
+    return byte;
 }
 
 size_t u16550_console_send(struct u16550_console *uart, const uint8_t *bytes, size_t len)
@@ -45,16 +47,17 @@ int u16550_console_write_text(struct u16550_console *uart, const char *text, siz
     return uart_tty_write_raw_text(uart, (const uint8_t *)text, len, &done);
 }
 
-/* As u16550_emergency, which is by hand too. */
 int u16550_console_emergency(struct u16550_console *uart)
 {
-    const uint8_t no_text = U16550_LCR_DLAB | U16550_LCR_SET_BREAK;
-    uint8_t kept, lcr = uart_device_read(UART_LCR);
-    for (uint32_t writes = 0; writes < U16550_CONSOLE_POLLS && (lcr & no_text) != 0; writes++) {
-        uart_device_write(UART_LCR, (uint8_t)(lcr & ~no_text));
+    const uint8_t blocking = U16550_LCR_DLAB | U16550_LCR_SET_BREAK;
+    uint8_t lcr = uart_device_read(UART_LCR);
+    uint8_t kept;
+    /* A UART of DesignWare takes no new LCR while it is busy. */
+    for (uint32_t writes = 0; writes < U16550_CONSOLE_POLLS && (lcr & blocking) != 0; writes++) {
+        uart_device_write(UART_LCR, (uint8_t)(lcr & ~blocking));
         lcr = uart_device_read(UART_LCR);
     }
-    if ((lcr & no_text) != 0)
+    if ((lcr & blocking) != 0)
         return U16550_CONSOLE_DIVISOR_LATCH_OPEN;
     uart_device_write(UART_IER, 0);
     /* The other outputs stay: loopback and a flow control by the chip would hold text back. */

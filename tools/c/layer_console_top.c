@@ -12,12 +12,12 @@
 #define U16550_CONSOLE_BAUD_RATE 115200
 #endif
 
-/* The divisor, as uart_calc_divisor has it without a prescaler. A baud rate that has no whole one is refused. */
+/* The clock divided by 16 times the baud rate. A baud rate that has no whole divisor is refused. An int of 16 bits is less than that product. */
 #ifndef U16550_CONSOLE_DIVISOR
-#if U16550_CONSOLE_BAUD_RATE <= 0 || U16550_CONSOLE_FREQUENCY % (16 * U16550_CONSOLE_BAUD_RATE) != 0
+#if U16550_CONSOLE_BAUD_RATE <= 0 || U16550_CONSOLE_FREQUENCY % (16UL * U16550_CONSOLE_BAUD_RATE) != 0
 #error "no whole divisor gives U16550_CONSOLE_BAUD_RATE: define U16550_CONSOLE_DIVISOR"
 #endif
-#define U16550_CONSOLE_DIVISOR (U16550_CONSOLE_FREQUENCY / (16 * U16550_CONSOLE_BAUD_RATE))
+#define U16550_CONSOLE_DIVISOR (U16550_CONSOLE_FREQUENCY / (16UL * U16550_CONSOLE_BAUD_RATE))
 #endif
 #if U16550_CONSOLE_DIVISOR < 1 || U16550_CONSOLE_DIVISOR > 65535
 #error "the divisor does not fit its register"

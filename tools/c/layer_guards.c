@@ -45,20 +45,11 @@ UART_ALIGNMENT(u16, uint16_t);
 #define UART_USABLE(at, name) uart_usable(at, offsetof(struct uart_aligned_##name, value))
 #define UART_ALIGNED(at, name) uart_aligned(at, offsetof(struct uart_aligned_##name, value))
 
-/* This number if something holds, else that of no error. */
-static inline int uart_if(bool holds, int status)
-{
-    return holds ? status : U16550_OK;
-}
-
-static inline int uart_unless(bool holds, int status)
-{
-    return holds ? U16550_OK : status;
-}
-
 static inline int uart_aligned(const void *at, size_t alignment)
 {
-    return uart_unless(((uintptr_t)at & (alignment - 1)) == 0, U16550_MISALIGNED);
+    if (((uintptr_t)at & (alignment - 1)) != 0)
+        return U16550_MISALIGNED;
+    return U16550_OK;
 }
 
 /* Refuses a pointer that is null or not aligned. */
@@ -67,7 +58,10 @@ static int uart_usable(const void *at, size_t alignment)
     return at == NULL ? U16550_NULL_POINTER : uart_aligned(at, alignment);
 }
 
-/* Refuses an array that cannot be: of items of this size, of which so many are half of all memory. One of none may be anywhere. */
+/*
+ * Refuses an array that cannot be: a pointer that is null or not aligned, more items than half of all memory holds, or an end behind that of
+ * memory. An array of no items may have any pointer.
+ */
 static int uart_items(const void *at, size_t len, size_t item, size_t half, size_t alignment)
 {
     uintptr_t start = (uintptr_t)at;
@@ -82,7 +76,7 @@ static int uart_items(const void *at, size_t len, size_t item, size_t half, size
     return U16550_OK;
 }
 
-/* The same. A compiler divides. */
+/* The same for items of a constant size: how many half of all memory holds is computed by the compiler. */
 #define uart_array(at, len, item, alignment) uart_items(at, len, item, (SIZE_MAX / 2) / (item), alignment)
 
 /* Begins a call over a driver, unless there is none or a call over it is not done. */
@@ -126,5 +120,7 @@ static inline int uart_leave(struct u16550 *uart, int status)
 
 static int uart_check_flag(uint8_t byte)
 {
-    return uart_unless(byte <= 1, U16550_BAD_CODE);
+    if (byte > 1)
+        return U16550_BAD_CODE;
+    return U16550_OK;
 }

@@ -18,7 +18,7 @@
 #elif defined(__s390x__)
 #define U16550_BARRIER() __asm__ __volatile__("bcr 15, 0" : : : "memory")
 #elif defined(__i386__) || defined(__x86_64__) || defined(__arm__) || defined(__aarch64__) || defined(__AVR__) || defined(__MSP430__) || \
-    defined(_M_IX86) || defined(_M_X64)
+    defined(_M_IX86) || defined(_M_X64) || defined(__SDCC)
 #define U16550_BARRIER() UART_FENCE()
 #elif defined(__GNUC__)
 #define U16550_BARRIER() __sync_synchronize()
@@ -123,7 +123,9 @@ static int uart_check_memory_layout(uintptr_t base, const struct u16550_layout *
         return U16550_STRIDE_TOO_SMALL;
     if ((base & (bytes - 1U)) != 0)
         return U16550_MISALIGNED_BASE;
-    return uart_if(base > UINTPTR_MAX - uart_distance(last, layout->stride), U16550_BAD_BASE);
+    if (base > UINTPTR_MAX - uart_distance(last, layout->stride))
+        return U16550_BAD_BASE;
+    return U16550_OK;
 }
 
 int (u16550_new_mmio_wide)(struct u16550 *uart, uintptr_t base, const struct u16550_layout *layout)

@@ -14,8 +14,9 @@ import results
 import structs
 import syntax as c
 from body import NATIVE, OF_C, Body, InC, Pair, expression
-from comments import Said, Words
+from comments import WIDTH, Said, Words
 from names import Function, Source, snake
+from reasons import Reason, with_reasons
 from representation import INT, NO_DEVICE, Kind, Representation, comment_of, safe
 from translate import Dictionary, Node, Program, Type, Types, Unknown, head
 from tree import DEVICE, OF_CALLER, PATIENCE, PORTS, Assign, Forest, Key, Place, Static
@@ -111,6 +112,8 @@ OFFSETS = {
     "uart_design_ware_load": READ,
     "uart_design_ware_store": WRITTEN,
 }
+# Those that are given nothing but constants there.
+BY_OFFSET = ("uart_read_register", "uart_read_plain", "uart_write_register")
 # Bytes that are characters.
 CHARACTERS = {value: f"'{chr(value)}'" for value in range(32, 127) if chr(value) not in "'\\"} | {8: r"'\b'", 10: r"'\n'", 13: r"'\r'"}
 # The registers, as variables that hold what one shows are called.
@@ -148,7 +151,12 @@ class Written:
     # How far it shifts what the source returns.
     shift: int = 0
     is_public: bool = False
+    # What the source says of it, if it is a function there; and the numbers of the errors that it returns.
+    source: Function | None = None
+    errors: list[str] = dataclasses.field(default_factory=list)
     statements: list[c.Statement] = dataclasses.field(default_factory=list)
+    # The reasons inside of it, each with its words in C.
+    reasons: list[tuple[Reason, list[str]]] = dataclasses.field(default_factory=list)
 
     def publish(self, names: list[str]) -> None:
         """Makes it one of the header, whose parameters have the names that they have there."""
@@ -183,13 +191,43 @@ class Written:
             if is_short
             else "static"
         )
+        body = with_reasons(body, self.reasons, WIDTH)
         first = top(word, self.result, self.name, [c.declared(one.of, one.known_name()) for one in self.parameters])
         return "\n".join([self.comment + "\n".join(first), "{", *body, "}", ""])
+
+
+def error_in(kind: Kind) -> Type | None:
+    """The error that a result of this kind may be."""
+    error = kind.error if kind.kind in ("status", "outcome", "either") else kind.value if kind.flag == "is_error" else None
+    return error if isinstance(error, tuple) else None
 
 
 def is_constant(value: c.Expression | None) -> bool:
     """Whether a value is a constant of an enum, or true or false."""
     return isinstance(value, c.Word) and (value.of is c.BOOL or isinstance(value.of, c.Named) and value.of.name.startswith("enum "))
+
+
+def codes_by_constant(written: Written) -> dict[str, c.Literal]:
+    """The codes that a function returns, each by the constant that it returns it for."""
+    only = written.statements[0] if len(written.statements) == 1 else None
+    cases = only.cases if isinstance(only, c.Switch) else []
+    return {
+        label.name: body[0].value
+        for labels, body in cases
+        for label in labels or ()
+        if isinstance(label, c.Word) and len(body) == 1 and isinstance(body[0], c.Return) and isinstance(body[0].value, c.Literal)
+    }
+
+
+def code_of_constant(one: c.Expression, codes: Mapping[str, Mapping[str, c.Literal]]) -> c.Expression:
+    """The code itself, in the place of a call that asks for that of a constant."""
+    first = one.arguments[0] if isinstance(one, c.CallOf) and one.name in codes and len(one.arguments) == 1 else None
+    return codes[one.name].get(first.name, one) if isinstance(one, c.CallOf) and isinstance(first, c.Word) else one
+
+
+def of_parameters(value: c.Expression, written: Written) -> bool:
+    """Whether a value of a function is computed of its parameters alone."""
+    return all(part.variable in written.parameters for part in c.every(value) if isinstance(part, c.Var))
 
 
 def is_known(value: c.Expression) -> bool:
@@ -280,8 +318,9 @@ class Library:
         self.forms, self.helpers = dict[str, results.Form](), dict[str, str]()
         # The numbers that functions return, as far as they are seen, and those that stand for each in the enum of another error.
         self.numbers_of, self.other_numbers = dict[str, frozenset[str]](), dict[str, dict[str, str]]()
-        # The numbers of the source that have a name there, and what stands in the place of calls of functions of libraries.
-        self.numbers, self.inlined = dict[str, str](), dict[str, tuple[c.Expression, list[c.Variable]]]()
+        # The numbers of the source that have a name there, what it says of them, and what stands in the place of calls of functions of libraries.
+        self.numbers, self.about_numbers = dict[str, str](), dict[str, str]()
+        self.inlined = dict[str, tuple[c.Expression, list[c.Variable]]]()
         self.bits, self.offsets, self.statics = dict[str, int](), dict[str, int](), dict[tuple[int, ...], str]()
         # The functions that move items, by their names.
         self.movers = dict[str, str]()
@@ -295,6 +334,7 @@ class Library:
         self.fixed = dict[tuple[str, str], Fixed | None]()
         # The calls that are made in the place of those which only pass on their arguments, and parameters that nothing reads any more.
         self.passed_on, self.unread = set[str](), dict[str, set[int]]()
+        self.written_out = called.WRITTEN_OUT
         self.instead = dict[str, tuple[c.Expression, list[c.Variable]]]()
         # The bits that results of a function have, if it returns nothing but constants.
         self.bits_of = dict[str, int]()
@@ -346,12 +386,19 @@ class Library:
             is_public = key[0] in self.exports
             # What is proved of a function of the header is said there.
             words = self.words_of(key, body)
-            proved = [] if is_public else [" ".join(words.text([one])) for one in self.source.proved(info)]
+            proved = (
+                []
+                if is_public
+                else [" ".join(words.text([one])).replace(*called.PROVED.get(self.name_of(key), ("", ""))) for one in self.source.proved(info)]
+            )
             known = self.known.get(key, {})
             comment = comment_of([*words.text(info.comment), *self.told_of(known, parameters)], proved=proved) if info else ""
             written = Written(
-                self.name_of(key), parameters, parameters, body.result, comment, proved, info is not None and info.is_apart, body.result
+                self.name_of(key), parameters, parameters, body.result, comment, proved, info is not None and info.is_apart, body.result, source=info
             )
+            if info and not self.exports:
+                told = [(one, words.text(list(one.lines))) for one in info.reasons]
+                written.reasons = [(one, said) for one, said in told if any(said)]
             if is_public:
                 written.publish(self.exports[key[0]][1])
             self.put_known(body.statements, written, known)
@@ -389,11 +436,14 @@ class Library:
                 passes.narrow_counters(written.statements)
             if not self.exports and not self.fixed:
                 self.leave_out_unread(written)
+                passes.narrow_counters(written.statements)
             self.note_passed_on(written)
             if not self.exports:
                 self.convert(written, body)
             if not self.exports:
                 self.make_readable(written, key[0].split("::")[0] in self.forest.own)
+            if written.name in BY_OFFSET and not self.fixed:
+                readable.with_byte(written.statements, written.parameters[1])
             written.statements = structs.hoisted(written.statements, self.name_of_struct)
             passes.on_expressions(written.statements, self.with_register)
             written.statements = readable.with_latch(written.statements, has_latch_bit, self.with_latch)
@@ -452,7 +502,7 @@ class Library:
         passes.on_expressions(made, readable.with_low_byte)
         passes.on_expressions(made, readable.with_one_number)
         passes.on_expressions(made, readable.with_constant_last)
-        made = results.with_passed_numbers(made, self.numbers_of, self.types.ok)
+        made = readable.without_tested_options(results.with_passed_numbers(made, self.numbers_of, self.types.ok))
         if numbers := results.numbers_of(made, self.numbers_of):
             self.numbers_of[written.name] = numbers
         written.statements = made
@@ -480,14 +530,25 @@ class Library:
         """What the names in a function's comment are in C."""
         of = body.tree.locals[0]
         kind, crate = self.types.kind(of), key[0].split("::")[0]
-        error = kind.error if kind.kind in ("status", "outcome", "either") else kind.value if kind.flag == "is_error" else None
+        error = error_in(kind)
         numbers = dict[str, str]()
-        if isinstance(error, tuple) and (told := self.types.told_of(error)):
-            numbers = {name: one if isinstance(one, str) else " or ".join(dict.fromkeys(one.values())) for name, one in told.numbers.items()}
-        elif isinstance(error, tuple):
+        if error and (told := self.types.told_of(error)):
+            numbers = {name: " or ".join(those) for name, those in told.numbers_of_variants().items()}
+        elif error:
             numbers = {name: number for name, number in self.types.failures.items()}
         is_true = of == "Bool" or kind.kind == "option" and kind.flag == "is_some"
         return Words(crate, frozenset() if self.exports else self.types.calls, numbers, is_true, self.types.ok, self.said)
+
+    def errors_of(self, of: Type) -> list[str]:
+        """The numbers of the errors in a result."""
+        error = error_in(self.types.kind(of)) if of != "Unit" else None
+        if error and self.types.plain_name(error).startswith("uart_pair_of_"):
+            # What was given is given back with the error.
+            error = self.types.fields(error)[1][1]
+        if not error:
+            return []
+        told = self.types.told_of(error)
+        return [one for those in told.numbers_of_variants().values() for one in those] if told else [self.types.failure(error)]
 
     def convert(self, written: Written, body: Body) -> None:
         """Makes a function return what it returns as C has it, and call others so."""
@@ -508,6 +569,8 @@ class Library:
         if form:
             self.forms[written.name] = written.form = form
             written.result, written.pointers, written.parameters = form.status, pointers, [*written.parameters, *pointers]
+        if written.result is INT:
+            written.errors = self.errors_of(body.tree.locals[0])
         passes.settle(written.statements, written.result)
 
     # What is known of parameters.
@@ -538,7 +601,9 @@ class Library:
         return found
 
     def told_of(self, known: Known, parameters: list[c.Variable]) -> list[str]:
-        """What a comment says of parameters that are left out."""
+        """What a comment says of parameters that are left out. The header of a console says of all what they are."""
+        if self.fixed:
+            return []
         out = [""] if known else []
         for order, value in known.items():
             if isinstance(value, c.Literal):
@@ -621,7 +686,7 @@ class Library:
         bits = readable.bits_of_results(written.statements)
         if bits is not None:
             self.bits_of[written.name] = bits
-        if not self.fixed and written.name in called.WRITTEN_OUT and isinstance(last, c.Return) and last.value:
+        if written.name in self.written_out and isinstance(last, c.Return) and last.value and of_parameters(last.value, written):
             self.instead[written.name] = (last.value, [*written.parameters])
 
     def note_unread(self, written: Written) -> None:
@@ -828,6 +893,8 @@ class Library:
 
         def note(its: str, name: str, number: int, module: str) -> str:
             known = self.number_name(name, module)
+            about = Words(its, self.types.calls, {}, said=self.said).text(self.source.about.get((its, name), []))
+            self.about_numbers.setdefault(known, " ".join(about))
             shown[known] = f"{number:#04x}" if (its, name) in self.source.of_bits else str(number)
             return known
 
@@ -921,6 +988,9 @@ class Library:
             register = f"{written.name.split('_')[1].upper()}_"
             known = {value: names for codes in called.CODES.values() for value, names in codes.items() if names[0].startswith(register)}
             passes.on_expressions(written.statements, lambda one: self.with_code(one, known))
+        codes = {one.name: codes_by_constant(one) for one in self.order if one.name in called.CODES}
+        for written in self.order:
+            passes.on_expressions(written.statements, lambda one: code_of_constant(one, codes))
 
     def with_code(self, one: c.Expression, known: Mapping[int, tuple[str, ...]]) -> c.Expression:
         """A constant code that is shifted to its field, by its name there, if that is one bit or one field."""
@@ -946,7 +1016,8 @@ class Library:
         return dataclasses.replace(one, name=called.SAME[one.name]) if isinstance(one, c.CallOf) and one.name in self.joined else one
 
     def number_name(self, name: str, module: str) -> str:
-        return f"UART_{module.upper()}_{name}" if name in READ.values() or name in WRITTEN.values() or name == "NONE" else f"UART_{name}"
+        its = f"UART_{module.upper()}_{name}" if name in READ.values() or name in WRITTEN.values() or name == "NONE" else f"UART_{name}"
+        return called.SAME_NUMBERS.get(its, its)
 
     def with_bits(self, one: c.Binary) -> c.Expression:
         """A test of a register, with the names of its bits, or of those that stay. Bits without a name are written as such."""
@@ -1177,7 +1248,7 @@ class Library:
         in_loops, out, text = self.called_in_loops(), list[Written](), "" if self.exports else None
         calls = {part.name for one in self.order for part in c.all_parts(one.statements) if isinstance(part, c.CallOf)}
         for one in reversed(self.order):
-            if one.name not in calls and (one.name in self.inlined or one.name in called.PASSED_ON | called.WRITTEN_OUT | self.joined):
+            if one.name not in calls and (one.name in self.inlined or one.name in called.PASSED_ON | self.written_out | self.joined):
                 continue
             if text is None or one.is_public or re.search(rf"\b{one.name}\(", text):
                 out.insert(0, one)

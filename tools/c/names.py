@@ -9,6 +9,8 @@ import re
 from collections.abc import Callable, Iterable
 from typing import TypeAlias
 
+from reasons import Reason, of_body
+
 # Where a definition is: a crate, a module and its name there.
 Definition: TypeAlias = tuple[str, str, str]
 # What has a name in a crate.
@@ -100,12 +102,15 @@ class Function:
     cited: list[str]
     # Its clauses, with their names, and where the definitions are that its file uses.
     ensures: list[tuple[str, str]] = dataclasses.field(default_factory=list)
+    requires: list[tuple[str, str]] = dataclasses.field(default_factory=list)
     uses: dict[str, Definition] = dataclasses.field(default_factory=dict)
     # Whether it is not to stand in the place of its calls.
     is_apart: bool = False
     # The constants that its body names, and the module that it is in.
     constants: frozenset[str] = frozenset()
     module: str = ""
+    # The reasons inside of its body.
+    reasons: list[Reason] = dataclasses.field(default_factory=list)
 
     def with_comment(self, other: Function | None) -> Function:
         """The same with the comment of another one, if there is such a one."""
@@ -124,8 +129,8 @@ class Source:
         # By crate and name: of a struct its fields and their types, and of an enum each variant with its parts.
         self.fields, self.types_of_fields = dict[Named, list[str]](), dict[Named, list[str]]()
         self.variants, self.comments = dict[Named, list[tuple[str, list[str]]]](), dict[Named, list[str]]()
-        # The numbers of constants, and the modules that they are in.
-        self.constants = dict[Named, tuple[int, str]]()
+        # The numbers of constants, the modules that they are in, and what is written about them.
+        self.constants, self.about = dict[Named, tuple[int, str]](), dict[Named, list[str]]()
         # Those that the source writes as bits.
         self.of_bits = set[Named]()
         self.functions, self.bits = dict[tuple[str, str | None, str], Function](), dict[Named, dict[str, int]]()
@@ -211,6 +216,7 @@ class Source:
             value = number(first) if known is None else known[0]
             if value is not None and number(more or "0") is not None:
                 self.constants[crate, found[1]] = value + (number(more or "0") or 0), module
+                self.about[crate, found[1]] = documentation(text, found.start())
                 if re.match(r"\s*0[xb]", found[2]):
                     self.of_bits.add((crate, found[1]))
         # A second name of a bit says what we use it for. The first is that of the original crate.
@@ -253,11 +259,13 @@ class Source:
             documentation(text, found.start()),
             bindings(body),
             cited(text[end:opened]) if has_body else [],
-            ensured(text[end:opened]) if has_body else [],
+            clauses("ensures", text[end:opened]) if has_body else [],
+            clauses("requires", text[end:opened]) if has_body else [],
             uses,
             "#[inline(never)]" in in_front(text, found.start()),
             frozenset(re.findall(r"(?<![\w:])(?<!\w\.)(?:\w+::)?([A-Z][A-Z0-9_]+)\b(?!::)", body)),
             module,
+            of_body(text[opened : closing(text, opened)]) if has_body else [],
         )
 
     def find(self, name: str) -> Function | None:
@@ -290,10 +298,10 @@ def cited(contract: str) -> list[str]:
     return list(dict.fromkeys(re.findall(r"(?<![\w.])([A-Z]\w+)", clauses)))
 
 
-def ensured(contract: str) -> list[tuple[str, str]]:
-    """The clauses of a contract that say what is so afterwards: the name, if there is one, and the text."""
+def clauses(kind: str, contract: str) -> list[tuple[str, str]]:
+    """The clauses of a contract that say what is so before, or afterwards: the name, if there is one, and the text."""
     out = []
-    for found in re.finditer(r"\bensures\b *(\w*) *\{", contract):
+    for found in re.finditer(rf"\b{kind}\b *(\w*) *\{{", contract):
         text = contract[found.end() : closing(contract, found.end() - 1)]
         out.append((found[1], re.sub(r"\s+", " ", text).strip()))
     return out

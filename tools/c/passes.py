@@ -278,9 +278,11 @@ def simpler(one: c.Expression) -> c.Expression:
     if isinstance(one, c.Field) and isinstance(one.base, c.CallOf) and one.name in (members := one.base.members()):
         return members[one.name]
     if isinstance(one, c.Unary) and one.operator == "!" and one.operand.of is c.BOOL:
-        opposite = c.negated(one.operand)
-        if not (isinstance(opposite, c.Unary) and opposite.operator == "!"):
+        opposite, inner = c.negated(one.operand), one.operand
+        if not is_negation(opposite):
             return opposite
+        if isinstance(inner, c.Binary) and inner.operator == "||" and not is_negation(first := c.negated(inner.left)):
+            return c.Binary("&&", first, c.negated(inner.right), c.BOOL)
     if isinstance(one, c.Binary):
         return simpler_binary(one)
     if isinstance(one, c.Cast) and isinstance(one.of, c.Number) and one.operand.of.text() == one.of.text() and isinstance(one.operand, c.Var):
@@ -291,6 +293,10 @@ def simpler(one: c.Expression) -> c.Expression:
     if isinstance(one, c.Cast) and isinstance(one.operand, c.Literal) and isinstance(one.of, c.Number) and one.operand.value < 1 << one.of.bits:
         return c.Literal(one.operand.value, one.of, one.operand.names)
     return one
+
+
+def is_negation(one: c.Expression) -> bool:
+    return isinstance(one, c.Unary) and one.operator == "!"
 
 
 def is_power_of_two(one: c.Expression) -> bool:

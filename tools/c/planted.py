@@ -36,9 +36,10 @@ IN_DRIVER = [
     ("a frame without a divisor", "    if (status != U16550_OK)\n        return status;\n    uart_store_frame(uart, config);",
      "    uart_store_frame(uart, config);"),
     ("a call in the middle of another", "    if (uart->is_busy != 0)\n        return U16550_BUSY;\n", ""),
-    ("a spin limit of 0", "uart_if(limit == 0, U16550_ZERO_LIMIT)", "U16550_OK"),
+    ("a spin limit of 0", "    if (limit == 0)", "    if (limit == 1)"),
     ("a parity that is another", "    to->parity = from->parity;\n    to->interrupts", "    to->parity = from->parity ^ 1;\n    to->interrupts"),
-    ("the wrong error", "return U16550_ATTACH_LOOPBACK;", "return U16550_ATTACH_NO_DIVISOR;"),
+    ("the wrong error", "return U16550_ATTACH_LOOPBACK;\n    struct uart_latch shown",
+     "return U16550_ATTACH_NO_DIVISOR;\n    struct uart_latch shown"),
     ("a length of all memory", "(SIZE_MAX / 2) / (item), alignment", "SIZE_MAX / (item), alignment"),
     ("a surrogate in UTF-8", "high = 0x9f;", "high = 0xbf;"),
     ("a register with its bytes the other way round", "UART_REGISTERS(swapped_half_words, 16, 8)", "UART_REGISTERS(swapped_half_words, 16, 0)"),
@@ -70,7 +71,7 @@ IN_DRIVER = [
     ("a timeout of three characters", "*clocks = 4 * character;", "*clocks = 3 * character;"),
     ("a look less is enough", "access_clocks) + 2)", "access_clocks) + 1)"),
     ("a product that does not fit", "if (quotient <= uart_quotient_64(UART_MOST_64, times))", "if (times <= UART_MOST_64)"),
-    ("a sum that does not fit", "    if (UART_MOST_64 - part < whole.value)\n        return false;\n", ""),
+    ("a sum that does not fit", "    if (UART_MOST_64 - part < product)\n        return false;\n", ""),
     ("nanoseconds that are used up are rounded up", "uart_multiply_divide(clocks, UART_NANOSECONDS_PER_SECOND, config->frequency, 0,",
      "uart_multiply_divide(clocks, UART_NANOSECONDS_PER_SECOND, config->frequency, config->frequency - 1,"),
     ("nanoseconds to wait are rounded down", "frequency >= 1 ? frequency - 1 : 0, nanoseconds);", "0, nanoseconds);"),
@@ -83,7 +84,7 @@ IN_DRIVER = [
      "        left = left << 1 | *dividend >> 63;\n        *dividend <<= 1;\n        quotient <<= 1;\n        if (left > divisor)"),
     ("a product has a part for each bit", "        if ((other & 1) != 0)\n            product += one;", "        product += one;"),
     ("a stride of 4 is one of 8", "for (; stride > 1; stride >>= 1)", "for (; stride > 0; stride >>= 1)"),
-    ("nothing left is 0", "        status = uart_unless(found_clocks.is_some, U16550_TIME_NOTHING_LEFT);", "        status = U16550_OK;"),
+    ("nothing left is 0", "if (status == U16550_OK && !found_clocks.is_some)", "if (status == U16550_OK && false)"),
 ]
 
 # Of what makes u16550.c: the file, the old text and the new one.
@@ -122,7 +123,10 @@ IN_TRANSLATOR_OF_DRIVER = [
     ("a status is that of another call", "results.py", "is_here and not passes.mentions(body[order:], last):", "is_here:"),
     ("a copy is what it was copied from, changed since", "passes.py",
      "is_only = sum(is_of(part, copy) for part in c.all_parts([behind])) == facts.reads.get(copy)", "is_only = True"),
-    ("an error is none that is left", "interface.py", 'tests, value = [*tests, f"uart_unless(', 'tests, value = [f"uart_unless('),
+    ("an opposite is one of half of it", "passes.py", "is_negation(first := c.negated(inner.left))", "is_negation(first := inner.left)"),
+    ("an option that has none is one", "readable.py", 'if c.text(value["is_some"]) == "true"', 'if c.text(value["is_some"])'),
+    ("an error is none that is left", "interface.py", 'tests, value = [*tests, (f"!{value}.is_some", number(call.none))]',
+     'tests, value = [(f"!{value}.is_some", number(call.none))]'),
     ("a success where the failure comes first", "readable.py", "c.If(passes.simpler(c.negated(test.condition)), [last], [])",
      "c.If(test.condition, [last], [])"),
     ("a low byte of seven bits", "readable.py", "c.Literal(0xFF,", "c.Literal(0x7F,"),
@@ -189,7 +193,6 @@ IN_TRANSLATOR_OF_PORT = [
      "switch.on = c.Binary(\"&\", on.operand, c.Literal(3, on.operand.of), on.operand.of)\n"),
     ("items that move become one item", "library.py", "moved[i] = items[from + done + i];", "moved[i] = items[from + done];"),
     ("an item of three bytes is one of one", "body.py", "return Int(index.value // size, index.bits)", "return index"),
-    ("another case of a constant", "passes.py", "label.name == name for", "label.name != name for"),
 ]
 
 # Of u16550_console.c.
@@ -206,7 +209,7 @@ IN_CONSOLE = [
     ("the high byte of a divisor", "divisor >> 8", "divisor >> 7"),
     ("the frame with DLAB set", "uart_device_write(UART_LCR, frame);", "uart_device_write(UART_LCR, frame | U16550_LCR_DLAB);"),
     ("seven data bits", "U16550_LCR_8N1 = 0x03", "U16550_LCR_8N1 = 0x02"),
-    ("another trigger level", "_LEVEL) | U16550_FCR_TRIGGER_14;", "_LEVEL) | 0x80;"),
+    ("another trigger level", "|\n        U16550_FCR_TRIGGER_14);", "|\n        0x80);"),
     ("a drain of 16", "turn < UART_MOST_WAITING", "turn < 16"),
     ("an interrupt is on", "uart->saved_lsr = 0;\n    uart_device_write(UART_IER, 0);", "uart->saved_lsr = 0;\n    uart_device_write(UART_IER, 1);"),
     ("the scratch register stays", "    uart_device_write(UART_SPR, old);\n", ""),
@@ -226,7 +229,7 @@ IN_CONSOLE = [
     ("each burst is the first", "uart_send_some(uart, &bytes[done], bytes_len - done,", "uart_send_some(uart, bytes, bytes_len - done,"),
     ("the wrong error", "return U16550_CONSOLE_LOOPBACK_UNEXPECTED_MSG;", "return U16550_CONSOLE_LOOPBACK_UNEXPECTED_BYTE;"),
     ("an error of attach that is another", "return U16550_CONSOLE_NO_DIVISOR;", "return U16550_CONSOLE_LOOPBACK;"),
-    ("no byte is a byte", "&byte) ? byte : -1", "&byte) ? byte : 0"),
+    ("no byte is a byte", "        return -1;", "        return 0;"),
     ("all is sent", "== U16550_CONSOLE_OK ? len : done", "== U16550_CONSOLE_OK ? len : len"),
     ("last words in loopback", "kept | U16550_MCR_DTR | U16550_MCR_RTS);", "kept | U16550_MCR_DTR);"),
     ("last words without a FIFO", "    uart->fifo_enabled = false;\n", ""),
@@ -263,12 +266,16 @@ IN_TRANSLATOR_OF_CONSOLE = [
      "        if False and any("),
     ("a loop of a large struct ends early", "in_place.py", "out += [*set_parts(c.Var(made), one.value), c.Return(c.Var(made))]",
      "out += [c.Return(c.Var(made))]"),
+    ("another case of a constant", "passes.py", "label.name == name for", "label.name != name for"),
 ]
 
 # Of those in what makes a pair: the ones that leave the C as it is, since no function of the source needs yet what they take away, and why.
 # Once the C differs by one of them, that has to be found as the others are.
 NOT_NEEDED = {
     "an access of an argument too many": "each function that only makes an access gives it each parameter once, and calls nothing for it",
+    "two results are one": "no function sets another result between one and its return",
+    "a status is that of another call": "no function reads a status behind the call that gives the next one",
+    "a mask goes that clears a bit": "no mask of the source clears a bit of a result whose bits are known",
     "a copy of what changes": "only the message that a loopback test compares is a copy that goes, and no part of it or of its origin is set",
 }
 

@@ -7,6 +7,7 @@ import re
 import sys
 import textwrap
 
+import compilers
 import names
 from header import LICENCE
 from kit import program_of
@@ -31,6 +32,8 @@ SHARED, SHARE = "uart_conclude", ["uart_port_receive_one", "uart_port_set_lines"
 # What is large, and would stand in two places, or beside what is done often: as what a write of MCR does beside those of the other registers,
 # for which a compiler then has registers enough.
 APART = ["uart_is_sound", "uart_change_lines", "uart_write_slowly", "uart_chip_renew_modem"]
+# The functions that have a switch of many cases, or what is in the place of a call of one.
+SWITCHES = {"uart_pending_interrupt": "static", **dict.fromkeys(("uart_read_register", "uart_write_register"), "static UART_APART")}
 # What is done once, or when somebody plugs a cable. A compiler makes such a function small.
 SELDOM = [f"uart_{of}_{name}" for of in ("chip", "port") for name in ("new", "new_sized", "load", "save", "set_lines")]
 INLINE = """/* For a function that is to stand in the place of its calls, unless it is to be small. */
@@ -127,12 +130,12 @@ def made(folder: pathlib.Path | None) -> tuple[dict[str, str], Library]:
             sys.exit(f"emit: {name} is {header.numbers[name]:#x} in the header, and {value:#x} in what is proved")
     own = named_in(library.types.declarations, library.text())
     texts = [
-        TOP + INLINE + constants(library, header.numbers),
+        TOP + INLINE + compilers.NO_TABLE + constants(library, header.numbers),
         "\n".join(own),
         shared(inlined(guarded(library.text()))),
         guarded(header.functions_by_hand()),
     ]
-    return {"uart_port.h": header.made(library), "uart_port.c": "\n".join(texts)}, library
+    return {"uart_port.h": header.made(library), "uart_port.c": "\n".join(texts) + compilers.functions("product")}, library
 
 
 def translated(
@@ -149,7 +152,11 @@ def translated(
     library = Library(program, source, public, OWN, "UART", clashes, known)
     library.registers, library.returned = header.registers, header.statuses
     library.short, library.apart = SHORT, "static UART_APART"
-    library.words = {**dict.fromkeys(APART, library.apart), **dict.fromkeys(SELDOM, "UART_SELDOM")}
+    library.words = {
+        **dict.fromkeys(APART, library.apart),
+        **dict.fromkeys(SELDOM, "UART_SELDOM"),
+        **{name: f"{words} UART_NO_TABLE" for name, words in SWITCHES.items()},
+    }
     for name, function in exports.items():
         library.export(function, name, header.prototypes[name])
     for function in exports.values():

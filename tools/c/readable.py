@@ -106,6 +106,53 @@ def without_result_flags(statements: Statements) -> Statements:
     return [*statements[:-3], c.If(opposite(first.value), [no], []), *test.yes[:-1], c.Return(inner.value)]
 
 
+def last_lists(one: c.If) -> list[Statements]:
+    """The lists of statements that a choice may end with, one of each branch; none, if it may do nothing."""
+    out = list[Statements]()
+    for body in (one.yes, one.no):
+        last = body[-1] if body else None
+        inner = last_lists(last) if isinstance(last, c.If) else [body] if body else []
+        if not inner:
+            return []
+        out += inner
+    return out
+
+
+def made_option(body: Statements, option: c.Variable) -> c.CallOf | None:
+    """What makes an option that the last of some statements sets."""
+    last = body[-1]
+    value = last.value if isinstance(last, c.Set) and passes.is_of(last.to, option) else None
+    return value if isinstance(value, c.CallOf) and isinstance(value.members().get("is_some"), c.Word) else None
+
+
+def without_tested_options(statements: Statements) -> Statements:
+    """A number in the place of an option that each branch sets, and that the test behind them asks for: a branch without one leaves as the test
+    does."""
+
+    def change(body: Statements) -> Statements:
+        for order, (choice, test) in enumerate(zip(body, body[1:])):
+            flag = c.negated(test.condition) if isinstance(test, c.If) and not test.no and c.leaves(test.yes) else None
+            if not isinstance(choice, c.If) or not isinstance(test, c.If) or not isinstance(flag, c.Field) or not isinstance(flag.base, c.Var):
+                continue
+            option, ends = flag.base.variable, last_lists(choice)
+            made = [made_option(end, option) for end in ends]
+            parts = c.all_parts(statements)
+            uses = sum(isinstance(one, c.Field) and one.name == "value" and passes.is_of(one.base, option) for one in parts)
+            if flag.name != "is_some" or not all(made) or passes.mentioned(statements, option) != len(ends) + 1 + uses:
+                continue
+            number = c.Variable(next(one.members()["value"].of for one in made if one), hint="found")
+            for end, one in zip(ends, made):
+                value = one.members() if one else {}
+                end[-1:] = [c.Set(c.Var(number), value["value"])] if c.text(value["is_some"]) == "true" else test.yes
+            passes.on_expressions(
+                statements, lambda one: c.Var(number) if isinstance(one, c.Field) and passes.is_of(one.base, option) and one.name == "value" else one
+            )
+            return [*body[: order + 1], *body[order + 2 :]]
+        return body
+
+    return on_lists(statements, change)
+
+
 def opposite(one: c.Expression) -> c.Expression:
     """The opposite of a condition, that of each part if it has some."""
     if isinstance(one, c.Binary) and one.operator in c.LOGICAL:
@@ -656,6 +703,17 @@ def with_low_byte(one: c.Expression) -> c.Expression:
     masked = one.operand if isinstance(one, c.Cast) and one.of.text() == "uint8_t" else None
     is_masked = isinstance(masked, c.Binary) and masked.operator == "&" and isinstance(masked.right, c.Literal) and masked.right.value == 0xFF
     return dataclasses.replace(one, operand=masked.left) if isinstance(one, c.Cast) and isinstance(masked, c.Binary) and is_masked else one
+
+
+def with_byte(statements: Statements, parameter: c.Variable) -> None:
+    """A parameter as a byte, if that is all that a function takes of it."""
+
+    def is_byte(one: c.Expression) -> bool:
+        return isinstance(one, c.Cast) and one.of.text() == "uint8_t" and passes.is_of(one.operand, parameter)
+
+    if passes.mentioned(statements, parameter) == sum(map(is_byte, c.all_parts(statements))):
+        parameter.of = c.BYTE
+        passes.on_expressions(statements, lambda one: one.operand if isinstance(one, c.Cast) and is_byte(one) else one)
 
 
 def is_of_bits(one: c.Expression, bits: int) -> bool:

@@ -6,7 +6,7 @@ import re
 from collections.abc import Mapping, Sequence
 
 import called
-from comments import Words, filled
+from comments import Said, Words, filled
 from names import snake
 import syntax
 from names import Source
@@ -49,6 +49,10 @@ class Told:
     # is there, by the names of both; no name, if the pointer is to the part itself.
     details: tuple[str, str, Mapping[tuple[str, str], str]] | None = None
 
+    def numbers_of_variants(self) -> dict[str, list[str]]:
+        """The numbers of each variant, by its name."""
+        return {name: [one] if isinstance(one, str) else [*dict.fromkeys(one.values())] for name, one in self.numbers.items()}
+
 
 @dataclasses.dataclass(frozen=True)
 class Kind:
@@ -78,7 +82,7 @@ class Representation:
         # The enums that a program knows, and the numbers that it knows for errors of one kind, by their names in the source.
         self.told, self.failures, self.silent = dict[str, Told](), dict[str, str](), set[str]()
         # The calls of the header, without what their names begin with.
-        self.calls = frozenset[str]()
+        self.calls, self.said = frozenset[str](), Said()
         # The number of no error.
         self.ok = "U16550_OK"
 
@@ -437,7 +441,7 @@ class Representation:
         if of[0] != "Named" or of[1].startswith("core"):
             return ""
         lines = self.source.comments.get(self.own(of), [])
-        return comment_of(Words(of[1].split("::")[0], self.calls, {}).text(lines) if self.calls else lines)
+        return comment_of(Words(of[1].split("::")[0], self.calls, {}, said=self.said).text(lines) if self.calls else lines)
 
 
 def safe(name: str) -> str:

@@ -26,7 +26,21 @@ SAID = (
     ("The backend is returned with the error, unchanged.", "Then `*device` is the backend, unchanged."),
     ("The driver is returned with the error, unchanged.", "Then `*driver` is the driver, unchanged."),
     ("Nothing was written then, and the driver is returned: `flush` it, and try again.", "Nothing was written then, and `*driver` is the driver."),
+    # What a call does for more than one caller.
+    ("until the last write of `init`. A handler", "until the caller's last write. A handler"),
+    (
+        "The original driver makes this write, and `init` follows it.",
+        "This write stays, since each access is one that the crate uart_16550 in Rust makes.",
+    ),
+    ("or as many as the receiver can hold. More are not discarded:", "at most 17, as many as a 16550 holds. More are not discarded:"),
+    ("are discarded until none is available, or as many as the receiver can hold", "are discarded until none is available, or until there were 17"),
+    (
+        "Without FIFO each burst is one byte. A loop of its own for those would ask for less, and would be the same code again.",
+        "Without FIFO each burst is one byte, which needs no loop of its own.",
+    ),
     # What is no reason in C.
+    ("The result is written field by field, so that no value waits in a register for the others.", ""),
+    ("A refusal returns the driver, which may hold a device that cannot be obtained again.", ""),
     (
         "The check stands once: where code is to be small, the compiler then inlines it, and drops what a constant configuration does not ask for."
         " Waiting and writing are two functions, and this one is inlined, so that each loop that sends holds one copy of the wait.",
@@ -48,6 +62,16 @@ SAID = (
         " function holds, and leaves no path to its panic.",
         "Returns the factor if it is at most 15, or if there is none.",
     ),
+    (
+        "the scratch register keeps both patterns; or it does not keep the first; or it keeps the first and not the second",
+        "the first pattern is written and, if it is kept, the second; the result is whether both were kept",
+    ),
+    (
+        " Each wait has a loop of its own over the limit, so the polls that count are those in a row: progress begins a new count.",
+        " Each call counts anew: the polls that count are those in a row.",
+    ),
+    ("Reads a register of which no bits are saved.", "Reads a register, and saves nothing of what that clears in the chip."),
+    (" This is a function of its own for callers that have tested the configuration already, and so have its divisor.", ""),
     # Codes of fields, which C has where they are in their register.
     ("Returns the code of this word length, in the low two bits.", "Returns this word length as LCR has it."),
     ("Returns the code of this parity, in the low three bits.", "Returns this parity as LCR has it."),
@@ -57,6 +81,7 @@ SAID = (
     ("Allocates its memory; nothing later allocates.", "Takes its memory from `*alloc`."),
     ("Allocates all memory of the rings; no later call allocates.", "Takes all memory of the rings from `*alloc`."),
     ("if memory could not be allocated", "if `*alloc` has less memory"),
+    ("take them by `receive_echo` between", "take them by `HalfDuplex::receive_bytes` between"),
     # Names of the definitions that are no parameters.
     ("how late it may begin where an access takes e clocks,", "how late the handler may begin where an access takes `access_clocks`,"),
     ("if each look takes at least e clocks", "if each look takes at least `access_clocks`"),

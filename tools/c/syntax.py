@@ -596,14 +596,22 @@ def block(top: str, body: list[Statement], depth: int, braces: bool = False) -> 
     return [*first, *inner, f"{tab}}}"]
 
 
-def if_lines(one: If, depth: int) -> list[str]:
+def branches(one: If) -> list[list[Statement]]:
+    """What a choice does in each case: an `else if` is a case of it."""
+    if len(one.no) == 1 and isinstance(one.no[0], If):
+        return [one.yes, *branches(one.no[0])]
+    return [one.yes, *([one.no] if one.no else [])]
+
+
+def if_lines(one: If, depth: int, of_chain: bool | None = None) -> list[str]:
     tab = INDENT * depth
-    has_braces = bool(one.no) and (len(one.yes) != 1 or len(one.no) != 1 or not is_short(one.yes) or not is_short(one.no))
+    # All cases have braces, or none.
+    has_braces = bool(one.no) and any(len(body) != 1 or not is_short(body) for body in branches(one)) if of_chain is None else of_chain
     out = block(f"if ({text(one.condition)})", one.yes, depth, has_braces)
     if not one.no:
         return out
     if len(one.no) == 1 and isinstance(one.no[0], If):
-        rest = if_lines(one.no[0], depth)
+        rest = if_lines(one.no[0], depth, has_braces)
         rest[0] = f"{tab}}} else {rest[0].strip()}" if out[-1] == f"{tab}}}" else f"{tab}else {rest[0].strip()}"
         return (out[:-1] if out[-1] == f"{tab}}}" else out) + rest
     rest = block("else", one.no, depth, has_braces)

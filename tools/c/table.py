@@ -84,10 +84,11 @@ class Shared:
 
 @dataclasses.dataclass(frozen=True)
 class Value:
-    """What a parameter of a function may be: the local that it is read into, the test, and what the proved function gets."""
+    """What a parameter of a function may be: the local that it is read into, the test, and what the proved function gets. The test is a call that
+    returns a number, or a condition that refuses it, with the number."""
 
     parameter: str
-    test: str
+    test: str | tuple[str, str]
     passed: str
     local: str = ""
     is_last: bool = False
@@ -121,11 +122,15 @@ class Call:
 
 @dataclasses.dataclass(frozen=True)
 class ByHand:
-    """A function of the header that is in the layer as it is."""
+    """A function of the header that is in the layer as it is. `gives` and `stalls` are as for a `Call`."""
 
     name: str
     takes: str
     returns: str = "int"
+    # The errors that it returns: an enum, or some numbers, between spaces.
+    errors: str = ""
+    gives: str = ""
+    stalls: str = ""
 
     def parameters(self) -> list[str]:
         return [one.strip() for one in self.takes.split(",")]
@@ -167,6 +172,6 @@ def check(table: Table) -> None:
     if wrong:
         raise Wrong(f"calls.py has these twice: {', '.join(wrong)}")
     for call in calls:
-        for name in (call.gives, call.stalls) if isinstance(call, Call) else ():
+        for name in (call.gives, call.stalls):
             if name and not any(re.search(rf"\*{name}$", one) for one in call.parameters()):
                 raise Wrong(f"calls.py: {call.name} takes no pointer {name}")

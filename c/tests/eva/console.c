@@ -2,6 +2,35 @@
 #include "any.h"
 #include "u16550_console.h"
 
+/* ---- what calls return */
+
+/*@ ensures returns: \result == U16550_CONSOLE_OK || \result == U16550_CONSOLE_DEVICE_NOT_PRESENT || \result == U16550_CONSOLE_INIT_STALLED; */
+int u16550_console_init(struct u16550_console *uart);
+
+/*@ ensures returns: \result == U16550_CONSOLE_OK || \result == U16550_CONSOLE_DIVISOR_LATCH_OPEN || \result == U16550_CONSOLE_LOOPBACK
+        || \result == U16550_CONSOLE_NO_DIVISOR; */
+int u16550_console_attach(struct u16550_console *uart);
+
+/*@ ensures returns: \result == U16550_CONSOLE_OK || U16550_CONSOLE_LOOPBACK_NO_CAPACITY <= \result <= U16550_CONSOLE_LOOPBACK_STALLED; */
+int u16550_console_test_loopback(struct u16550_console *uart);
+
+/*@ ensures returns: \result == U16550_CONSOLE_OK || \result == U16550_CONSOLE_STALLED; */
+int u16550_console_put(struct u16550_console *uart, uint8_t byte);
+
+/*@ ensures returns: \result == U16550_CONSOLE_OK || \result == U16550_CONSOLE_NO_CAPACITY; */
+int u16550_console_try_put(struct u16550_console *uart, uint8_t byte);
+
+/*@ ensures returns: -1 <= \result <= 255; */
+int u16550_console_get(struct u16550_console *uart);
+
+/*@ ensures returns: \result == U16550_CONSOLE_OK || \result == U16550_CONSOLE_STALLED; */
+int u16550_console_write_text(struct u16550_console *uart, const char *text, size_t len);
+
+/*@ ensures returns: \result == U16550_CONSOLE_OK || \result == U16550_CONSOLE_DIVISOR_LATCH_OPEN || \result == U16550_CONSOLE_LOOPBACK; */
+int u16550_console_emergency(struct u16550_console *uart);
+
+/* ---- the calls */
+
 enum { ROOM = 40 };
 
 static struct u16550_console console;

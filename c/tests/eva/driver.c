@@ -1,7 +1,7 @@
 /*
  * Calls of u16550.h, any number of them in any order, over a device that answers anything. There is a function for each kind of driver,
- * which Eva begins at: without rings, with rings, with notes of errors, at a bus; and one for what needs none. Without rings an interrupt
- * comes in the middle of each access.
+ * which Eva begins at: without rings, with rings, with notes of errors, at a bus; one for what makes a driver, and one for what needs none.
+ * Without rings an interrupt comes in the middle of each access.
  */
 #include "any.h"
 #include "u16550.h"
@@ -31,10 +31,14 @@ static struct u16550_received received[ROOM];
 static struct u16550_handled handled;
 static struct u16550_urgent urgent;
 static struct u16550_stuck stuck;
+static struct u16550_direction direction;
 
 /* ---- the device */
 
 static uint8_t interrupts;
+
+/* Whether an access was made since the last call began. */
+uint8_t uart_was_reached;
 
 static void interrupt(void)
 {
@@ -50,6 +54,7 @@ static uint8_t read_any(void *context, uintptr_t address)
 {
     (void)context;
     (void)address;
+    uart_was_reached = 1;
     interrupt();
     return any_byte();
 }
@@ -59,6 +64,7 @@ static void write_any(void *context, uintptr_t address, uint8_t written)
     (void)context;
     (void)address;
     (void)written;
+    uart_was_reached = 1;
     interrupt();
 }
 
@@ -84,6 +90,8 @@ static void choose(void)
     config.extra_stop_bits = any_byte();
     config.parity = any_byte();
     config.check_cts_before_sending = any_byte();
+    direction.line = any_byte();
+    direction.sends_when_set = any_byte();
     setup.checks_presence = any_byte();
     setup.wait = any_byte();
     setup.outputs = any_byte();
@@ -142,6 +150,7 @@ static void plain_call(void)
     enum { EACH_CALL(NUMBER, NONE) LAST };
     size_t len = below(ROOM + 1);
     choose();
+    uart_was_reached = 0;
     switch (below(LAST + 7)) {
     EACH_CALL(CASE, NONE)
     case LAST: u16550_get_io(&uart, &io); break;
@@ -159,6 +168,7 @@ static void ring_call(void)
     enum { EACH_CALL(NONE, NUMBER) LAST };
     size_t len = below(ROOM + 1);
     struct u16550_line_port port = { &uart, { 0, 0 }, U16550_OK, 0 };
+    uart_was_reached = 0;
     switch (below(LAST + 3)) {
     EACH_CALL(NONE, CASE)
     case LAST: u16550_ring_stuck(&uart, &stuck); break;
@@ -170,6 +180,7 @@ static void ring_call(void)
 static void bus_call(void)
 {
     size_t len = below(ROOM + 1);
+    uart_was_reached = 0;
     switch (below(10)) {
     case 0: u16550_bus_start_sending(&bus); break;
     case 1: u16550_bus_try_finish(&bus); break;
@@ -188,11 +199,13 @@ static void computation(void)
 {
     enum { EACH_OF_CONFIG(NUMBER) LAST };
     choose();
-    switch (below(LAST + 4)) {
+    uart_was_reached = 0;
+    switch (below(LAST + 5)) {
     EACH_OF_CONFIG(CASE)
     case LAST: u16550_nearest(&config, any_word(), &nearest); break;
     case LAST + 1: u16550_dump_divisor(&dump, &size); break;
     case LAST + 2: u16550_default_config(&config); break;
+    case LAST + 3: u16550_direction_receiving(&direction, any_byte(), &value); break;
     default: u16550_dump_baud_rate(&dump, &config, &rate); break;
     }
 }
@@ -212,6 +225,37 @@ static int make(void)
     return (u16550_new)(&uart, &device);
 }
 
+/* Makes drivers in the place of each other, and none makes an access. */
+int makers(void)
+{
+    static struct u16550_design_ware chip;
+    static struct u16550_layout layout;
+    while (below(2)) {
+        choose();
+        layout.stride = any_byte();
+        layout.width = any_byte();
+        layout.byte_order = any_byte();
+        state.config = config;
+        state.spin_limit = any_number();
+        state.fifo_enabled = any_byte();
+        state.saved_lsr = any_byte();
+        state.saved_msr = any_byte();
+        state.fifo_size = any_short();
+        switch (below(9)) {
+        case 0: (u16550_new)(&uart, &device); break;
+        case 1: (u16550_new_port)(&uart, &device, any_short()); break;
+        case 2: (u16550_new_mmio)(&uart, &device, any_number(), any_byte()); break;
+        case 3: (u16550_new_mmio_wide)(&uart, any_number(), &layout); break;
+        case 4: (u16550_new_design_ware)(&uart, &chip, &device, any_number()); break;
+        case 5: (u16550_new_mmio_design_ware)(&uart, &chip, any_number(), &layout, any_number()); break;
+        case 6: u16550_design_ware_fault(&uart, &chip); break;
+        case 7: (u16550_from_state)(&uart, &device, &state); break;
+        default: u16550_end(&uart); break;
+        }
+    }
+    return 0;
+}
+
 int plain(void)
 {
     int status = make();
@@ -220,6 +264,7 @@ int plain(void)
     interrupts = 1;
     while (below(2))
         plain_call();
+    uart_was_reached = 0;
     return u16550_end(&uart);
 }
 
@@ -233,6 +278,7 @@ int rings(void)
         return status;
     while (below(2))
         ring_call();
+    uart_was_reached = 0;
     return u16550_ring_end(&uart);
 }
 
@@ -257,17 +303,16 @@ int noting(void)
 
 int at_a_bus(void)
 {
-    struct u16550_direction direction;
     int status = make();
     if (status != U16550_OK)
         return status;
-    direction.line = any_byte();
-    direction.sends_when_set = any_byte();
+    choose();
     status = u16550_bus_new(&bus, &uart, &direction);
     if (status != U16550_OK)
         return status;
     while (below(2))
         bus_call();
+    uart_was_reached = 0;
     return u16550_bus_end(&bus, &uart);
 }
 

@@ -272,7 +272,7 @@ impl<B: Backend> Uart16550Tty<B> {
     {
         match byte {
             b' '..=b'~' => {
-                self.inner.send_singly(&[byte])?;
+                self.inner.send_one(byte)?;
                 Ok(1)
             }
             _ => {

@@ -15,10 +15,6 @@ typedef grub_uint16_t uint16_t;
 typedef grub_uint32_t uint32_t;
 typedef grub_uint64_t uint64_t;
 typedef grub_addr_t uintptr_t;
-#define UINT16_MAX 0xffff
-#define UINTPTR_MAX __UINTPTR_MAX__
-#define SIZE_MAX __SIZE_MAX__
-#define UINT32_C(number) number##U
 #define U16550_HAS_TYPES
 #include "u16550.c"
 

@@ -5,21 +5,8 @@
  * SeaBIOS compiles it for 16 bits and for 32, and prints before it has variables. So a console is on the stack, two bytes, made anew for each
  * character: FIFOs that are taken to be off cost nothing where one character is sent.
  */
-typedef u8 uint8_t;
-typedef u16 uint16_t;
-typedef u32 uint32_t;
-typedef u64 uint64_t;
-typedef u32 uintptr_t;
-typedef _Bool bool;
-#define true 1
-#define false 0
-#define SIZE_MAX 0xffffffffu
-#define UINT8_C(number) number
-#define UINT16_C(number) number
-#define UINT32_C(number) number##u
-#define UINT64_C(number) number##ull
+#include "u16550_types.h"
 
-#define U16550_HAS_TYPES
 #define U16550_CONSOLE_POLLS 100000
 #define U16550_CONSOLE_READ(offset) inb((u16)(CONFIG_DEBUG_SERIAL_PORT + (offset)))
 #define U16550_CONSOLE_WRITE(offset, value) outb(value, (u16)(CONFIG_DEBUG_SERIAL_PORT + (offset)))

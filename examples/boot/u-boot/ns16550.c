@@ -16,9 +16,6 @@
 #include <linux/types.h>
 
 /* The library as a part of this file: U-Boot has the types itself, and no stdint.h. */
-#define UINT16_MAX USHRT_MAX
-#define UINTPTR_MAX ULONG_MAX
-#define UINT32_C(number) number##U
 #define U16550_HAS_TYPES
 #include "u16550.c"
 

@@ -7,6 +7,7 @@
 #include <stdio.h>
 
 #include "../layer_arithmetic.c"
+#include "../layer_product.c"
 
 static unsigned long pairs, wrong;
 
@@ -15,6 +16,7 @@ static void compare(uint64_t one, uint64_t other)
     uint32_t short_one = (uint32_t)one, short_other = (uint32_t)other;
     pairs++;
     wrong += uart_product_64(one, other) != one * other;
+    wrong += __mspabi_mpyi((uint16_t)one, (uint16_t)other) != (uint16_t)(one * other);
     wrong += uart_times((uintptr_t)one, (uint8_t)other) != (uintptr_t)(one * (uint8_t)other);
     for (uint8_t stride = 1; stride != 0; stride = (uint8_t)(stride << 1))
         wrong += uart_distance((uint8_t)one, stride) != (uintptr_t)(uint8_t)one * stride;

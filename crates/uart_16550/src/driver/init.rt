@@ -105,6 +105,7 @@ impl<B: Backend> Uart16550<B> {
         self.write_register(offsets::LCR, LCR::DLAB.bits());
         self.write_register(offsets::DLL, (divisor % 256) as u8);
         self.write_register(offsets::DLM, (divisor / 256) as u8);
+        // The frame clears DLAB too. The original driver makes this write, and `init` follows it.
         self.write_register(offsets::LCR, 0);
         self.write_register(offsets::LCR, frame.bits());
     }

@@ -405,7 +405,7 @@ impl<B: Backend> Uart16550Tty<B> {
     fn send_expansion(&mut self, byte: u8) -> Result<usize, StalledError> {
         match byte {
             b' '..=b'~' => {
-                self.inner.send_singly(&[byte])?;
+                self.inner.send_one(byte)?;
                 Ok(1)
             }
             _ => {

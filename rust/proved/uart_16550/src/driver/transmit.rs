@@ -175,10 +175,14 @@ impl<B: Backend> Uart16550<B> {
     ///
     /// </details>
     pub fn try_send_byte(&mut self, byte: u8) -> Result<(), ByteSendError> {
-        if self.send_bytes(&[byte]) == 0 {
-            return Err(ByteSendError::NoCapacity);
+        match self.ready_to_send() {
+            Ok(()) => {
+                self.write_byte(byte);
+                Ok(())
+            }
+            // The original driver has this one error for both causes.
+            Err(_) => Err(ByteSendError::NoCapacity),
         }
-        Ok(())
     }
 
     // Waits until bytes may be written. The check stands once: where code is to be small, the
@@ -201,6 +205,16 @@ impl<B: Backend> Uart16550<B> {
             return None;
         }
         Some(self.write_burst(bytes))
+    }
+
+    // Waits for room, and sends a byte.
+    #[inline(always)]
+    pub(crate) fn send_one(&mut self, byte: u8) -> Result<(), StalledError> {
+        if !self.wait_to_send() {
+            return Err(StalledError { done: 0 });
+        }
+        self.write_byte(byte);
+        Ok(())
     }
 
     // Sends the bytes one by one, and waits for room before each.
