@@ -1,5 +1,5 @@
 #!/usr/bin/env python3
-"""The person at the console of a boot loader: host.py u-boot|grub -- COMMAND..
+"""The person at the console of a boot loader: host.py u-boot|grub|int14|opensbi|xen|coreboot -- COMMAND..
 
 Starts a machine whose serial port is at standard input and output, and types commands to its boot loader. Every byte of each answer has to
 be as expected. A machine that sends nothing for a while is stopped. Prints a line for each thing that was tried, and ends with 1 if one
@@ -69,11 +69,16 @@ class Loader:
             raise Unexpected(f"{command!r} was answered by {answer[:5]!r}, not by {wanted[:5]!r}")
 
 
-def echo(loader, count):
-    """Lines of so many words that are typed at once, and come back."""
+def lines_of(count):
+    """Lines of so many words."""
     numbers = random.Random(16550)
     for _line in range(LINES):
-        words = " ".join(f"{numbers.randrange(1 << 20):x}" for _word in range(count))
+        yield " ".join(f"{numbers.randrange(1 << 20):x}" for _word in range(count))
+
+
+def echo(loader, count):
+    """Lines of so many words that are typed at once, and come back."""
+    for words in lines_of(count):
         loader.expect(f"echo {words}", [words])
 
 
@@ -165,10 +170,61 @@ def talk_to_grub(machine):
     yield "a baud rate that the chip does not have is refused"
 
 
+# ---- SeaBIOS, OpenSBI, Xen
+
+
+def type_lines(machine):
+    """Types lines to a program that sends each byte back."""
+    for line in lines_of(12):
+        machine.type_in(line.encode() + b"\r")
+        if machine.until(b"\r") != line.encode():
+            raise Unexpected(f"{line!r} did not come back")
+    return f"{LINES} lines that are typed at once come back"
+
+
+def talk_to_int14(machine):
+    machine.until(b"INT 14h sends what it receives\r\n")
+    yield "a boot sector sends"
+    yield type_lines(machine)
+
+
+def talk_to_opensbi(machine):
+    machine.until(b"OpenSBI v")
+    if b"Platform Console Device     : uart8250\r\n" not in machine.until(b"\r\nTest payload running\r\n"):
+        raise Unexpected("its console is another one")
+    yield "it boots"
+    yield type_lines(machine)
+
+
+def talk_to_xen(machine):
+    machine.until(b"(XEN) Xen version ")
+    machine.until(b"\r\nthe domain writes what it reads\r\n")
+    yield "it boots, and a domain"
+    yield type_lines(machine)
+    machine.type_in(b"\x01\x01\x01h")
+    machine.until(b"(XEN) *** Serial input to Xen")
+    machine.until(b"(XEN) 'h' pressed -> showing installed handlers\r\n")
+    machine.until(b"(XEN)  key 'h' (ascii '68') => show this message\r\n")
+    yield "it has the keys that are for itself"
+
+
+# ---- coreboot
+
+
+def talk_to_coreboot(machine):
+    for stage in "bootblock", "romstage", "postcar", "ramstage":
+        machine.until(f" {stage} starting (log level: ".encode())
+    log = machine.until(b"Payload not loaded.\r\n")
+    if set(log) - {*b"\t\r\n", *range(0x20, 0x7F)}:
+        raise Unexpected(f"what is no text: {log!r}")
+    yield "each of its four stages says what it does"
+
+
 def main():
     loader, at = sys.argv[1], sys.argv.index("--")
     machine = Machine(sys.argv[at + 1:])
-    talk = {"u-boot": talk_to_u_boot, "grub": talk_to_grub}[loader]
+    talks = [talk_to_u_boot, talk_to_grub, talk_to_int14, talk_to_opensbi, talk_to_xen, talk_to_coreboot]
+    talk = {one.__name__.removeprefix("talk_to_").replace("_", "-"): one for one in talks}[loader]
     try:
         for tried in talk(machine):
             print(f"{loader}: {tried}: ok", flush=True)
