@@ -126,7 +126,16 @@ COMMANDS = [
     beside(
         "integration/c",
         without=OF_USERS_OF_C,
-        but=["docs/C.md", "docs/C_INTERRUPTS.md", "integration/apt", "integration/bounds", "integration/c", "bench/callbacks.c", "bench/README.md"],
+        but=[
+            "docs/C.md",
+            "docs/C_CHIP.md",
+            "docs/C_INTERRUPTS.md",
+            "integration/apt",
+            "integration/bounds",
+            "integration/c",
+            "bench/callbacks.c",
+            "bench/README.md",
+        ],
     ),
     # It waits for the libraries below alone, and so runs beside what `rt ci` does last: that proves this crate too, and does not build it.
     Command(C, after=OF_C, always=True),
