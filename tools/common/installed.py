@@ -33,7 +33,7 @@ def has(tool: str) -> bool:
     """Whether there is a tool, or its package can be installed."""
     if shutil.which(tool):
         return True
-    line = 'log=/dev/null; . integration/apt; . integration/bare; need "$@"'
+    line = '. integration/apt; need "$@"'
     words = ["bash", "-c", line, "need", tool, package(tool)]
     return subprocess.run(words, cwd=TOP, stdout=subprocess.DEVNULL, stderr=subprocess.DEVNULL, check=False).returncode == 0
 
