@@ -3041,17 +3041,13 @@ uart_exchange_byte(struct u16550_core_driver *uart, struct uart_loopback_failure
  * Proved: what came back for these bytes, or nothing if a wait was unsuccessful, with a FIFO and
  * without; the one of the two that fits.
  */
-static bool uart_echo_whole(struct u16550_core_driver *uart, struct uart_bytes16 *actual)
+static inline bool uart_echo_whole(struct u16550_core_driver *uart, struct uart_bytes16 *actual)
 {
     size_t stalled_at;
     if (uart_send_bytes_exact(uart, uart_test_message, 16, &stalled_at) != U16550_OK)
         return false;
-    struct uart_bytes16 echo;
-    uart_fill_bytes(echo.bytes, 0, 16);
-    if (uart_receive_bytes_exact(uart, echo.bytes, 16, &stalled_at) != U16550_OK)
-        return false;
-    *actual = echo;
-    return true;
+    uart_fill_bytes(actual->bytes, 0, 16);
+    return uart_receive_bytes_exact(uart, actual->bytes, 16, &stalled_at) == U16550_OK;
 }
 
 /*
@@ -3072,15 +3068,13 @@ static inline bool uart_echo(struct u16550_core_driver *uart, uint8_t byte, uint
  */
 static bool uart_echo_each(struct u16550_core_driver *uart, struct uart_bytes16 *actual)
 {
-    struct uart_bytes16 echo;
-    uart_fill_bytes(echo.bytes, 0, 16);
+    uart_fill_bytes(actual->bytes, 0, 16);
     for (size_t i = 0; i < 16; i++) {
         uint8_t byte;
         if (!uart_echo(uart, uart_test_message[i], &byte))
             return false;
-        echo.bytes[i] = byte;
+        actual->bytes[i] = byte;
     }
-    *actual = echo;
     return true;
 }
 
@@ -3273,28 +3267,23 @@ static inline int uart_send_one(struct u16550_core_driver *uart, uint8_t byte)
 /* Returns what is sent for a byte of a text. */
 static struct uart_expansion uart_tty_expand(uint8_t byte)
 {
+    struct uart_expansion expansion;
     switch (byte) {
     case '\b':
-    case 0x7f: {
-        struct uart_bytes3 bytes;
-        uart_copy_bytes(bytes.bytes, uart_erase_text, 3);
-        struct uart_expansion expansion = { bytes, 3 };
+    case 0x7f:
+        uart_copy_bytes(expansion.text.bytes, uart_erase_text, 3);
+        expansion.len = 3;
         return expansion;
-    }
-    case '\n': {
-        struct uart_bytes3 bytes;
-        uart_copy_bytes(bytes.bytes, uart_newline_text, 3);
-        struct uart_expansion expansion = { bytes, 2 };
+    case '\n':
+        uart_copy_bytes(expansion.text.bytes, uart_newline_text, 3);
+        expansion.len = 2;
         return expansion;
-    }
-    default: {
-        struct uart_bytes3 bytes;
-        bytes.bytes[0] = byte;
-        bytes.bytes[1] = 0;
-        bytes.bytes[2] = 0;
-        struct uart_expansion expansion = { bytes, 1 };
+    default:
+        expansion.text.bytes[0] = byte;
+        expansion.text.bytes[1] = 0;
+        expansion.text.bytes[2] = 0;
+        expansion.len = 1;
         return expansion;
-    }
     }
 }
 

@@ -979,29 +979,20 @@ static void uart_tty_expand(uint8_t byte, struct uart_expansion *expansion)
 {
     switch (byte) {
     case '\b':
-    case 0x7f: {
-        struct uart_bytes3 bytes;
-        uart_copy_bytes(bytes.bytes, uart_erase_text, 3);
-        expansion->text = bytes;
+    case 0x7f:
+        uart_copy_bytes(expansion->text.bytes, uart_erase_text, 3);
         expansion->len = 3;
         return;
-    }
-    case '\n': {
-        struct uart_bytes3 bytes;
-        uart_copy_bytes(bytes.bytes, uart_newline_text, 3);
-        expansion->text = bytes;
+    case '\n':
+        uart_copy_bytes(expansion->text.bytes, uart_newline_text, 3);
         expansion->len = 2;
         return;
-    }
-    default: {
-        struct uart_bytes3 bytes;
-        bytes.bytes[0] = byte;
-        bytes.bytes[1] = 0;
-        bytes.bytes[2] = 0;
-        expansion->text = bytes;
+    default:
+        expansion->text.bytes[0] = byte;
+        expansion->text.bytes[1] = 0;
+        expansion->text.bytes[2] = 0;
         expansion->len = 1;
         return;
-    }
     }
 }
 

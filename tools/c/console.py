@@ -165,8 +165,6 @@ NAMED = {
 OK, STALLED = "U16550_CONSOLE_OK", "U16550_CONSOLE_STALLED"
 # The functions whose one value stands in the place of their calls: the level of the FIFOs is known.
 WRITTEN_OUT = {"uart_fcr_with_trigger_level", "uart_fcr_resetting_fifos"}
-# The structs that are made where they are returned, and not copied.
-LARGE = ("uart_bytes16",)
 # The functions that write a struct through a pointer of this name, where the source returns it: compilers for 8 bits, as SDCC, return none.
 BY_POINTER = {"uart_dll_dlm": "latch", "uart_tty_expand": "expansion"}
 # The members of the driver that a console has not.
@@ -273,6 +271,8 @@ def through_pointer(text: str, name: str, pointer: str, declarations: dict[str, 
         # A function ends behind its last statement.
         return "".join(sets) + ("" if one.end() == len(body) else f"{one[1]}return;\n")
 
+    if own := re.match(rf" +struct {struct} (\w+);\n", body):
+        body = body[own.end() :].replace(f"{own[1]}.", f"{pointer}->").replace(f"return {own[1]};", "return;")
     made = re.sub(rf"( +)struct {struct} (\w+) = \{{ ([^{{}}]*) \}};\n +return \2;\n", written, body)
     parameters = ", ".join([*([] if given == "void" else [given]), f"struct {struct} *{pointer}"])
     text = text[: found.start()] + f"static {inline}void {name}({parameters})\n{{\n{made}}}\n" + text[found.end() :]
@@ -304,7 +304,7 @@ def translated(program: Program, source: names.Source, known: dict[Key, Known]) 
     library.types.told = {name: Told(INT, {one: numbered(number) for one, number in numbers.items()}) for name, numbers in NUMBERS.items()}
     library.types.failures, library.types.ok = {"StalledError": STALLED}, OK
     library.types.calls = frozenset(one.name for section in calls.SECTIONS for group in section.groups for one in group.calls)
-    library.large, library.said = set(LARGE), Said(driver.NAMED | NAMED, (*SAID, *said.SAID))
+    library.said = Said(driver.NAMED | NAMED, (*SAID, *said.SAID))
     library.passed_on, library.written_out = {"uart_device_read", "uart_device_write"}, WRITTEN_OUT
     library.types.put_into_header(("Named", OF_DRIVER.rsplit("::", 2)[0] + "::Uart16550", (DEVICE,)))
     for name in CALLED:

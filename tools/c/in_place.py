@@ -1,5 +1,5 @@
-"""Large structs are made where they are returned. Each argument of a function that makes a struct is a copy, which a compiler keeps on the
-stack beside the others: rings in a result would be there four times."""
+"""Structs that are large, or that have an array, are made where they are returned. Each argument of a function that makes a struct is a copy,
+which a compiler keeps on the stack beside the others: rings in a result would be there four times."""
 import re
 from collections.abc import Callable
 
@@ -28,12 +28,13 @@ def set_parts(place: c.Expression, maker: c.CallOf) -> list[c.Statement]:
 
 
 def run(statements: list[c.Statement], is_large: Callable[[c.Type], bool]) -> list[c.Statement]:
-    """The statements of a function all of whose returns make a large struct; others as they are."""
+    """The statements of a function all of whose returns make such a struct; others as they are."""
     values = [one.value for one in c.all_statements(statements) if isinstance(one, c.Return)]
     makers = [one for one in values if isinstance(one, c.CallOf) and one.fields and is_large(one.of)]
     if not makers or len(makers) < len(values):
         return statements
-    made = c.Variable(makers[0].of, hint="made")
+    # It is called as its struct is.
+    made = c.Variable(makers[0].of, hint=re.sub(r"^struct (uart_|u16550_core_)?", "", makers[0].of.text()))
     replaced = dict[c.Variable, c.Expression]()
     for maker in makers:
         for name, value in maker.members().items():

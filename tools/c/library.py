@@ -35,8 +35,8 @@ OF_TRAITS = {
     "uart_ring::line::LinePorts": PORTS,
     "uart_design_ware::registers::DesignWareRegisters": DEVICE,
 }
-# The structs of C that are large, as are those that have one of them.
-LARGE = {"u16550_core_driver", "u16550_core_error_notes"}
+# The structs of C that are large, and arrays, which are copied byte by byte: as are those that have one of them.
+LARGE = {"u16550_core_driver", "u16550_core_error_notes", "uart_bytes3", "uart_bytes16"}
 HELPERS = {
     "uart_copy_bytes": """/* Copies so many bytes between two places that do not overlap. */
 static inline void uart_copy_bytes(uint8_t *to, const uint8_t *from, size_t count)
@@ -342,8 +342,6 @@ class Library:
         self.are_codes_shifted, self.joined = False, set[str]()
         # What comments say otherwise in this pair.
         self.said = Said()
-        # More structs that are made where they are returned.
-        self.large = set[str]()
         # What is known of a function, by its name; and what stands in the place of its calls, if that is one value or one call.
         self.known, self.known_of = known or {}, dict[str, Known]()
         self.stands_for = dict[str, tuple[c.Expression, list[c.Variable]]]()
@@ -818,8 +816,8 @@ class Library:
         return one
 
     def is_large(self, of: c.Type) -> bool:
-        """Whether a type of C is a large struct."""
-        structs = in_place.large(self.types.declarations, LARGE | self.large)
+        """Whether a type of C is a struct that is large, or that has an array."""
+        structs = in_place.large(self.types.declarations, LARGE)
         return isinstance(of, c.Named) and of.name.removeprefix("struct ") in structs
 
     def name_registers(self, written: Written, read: dict[int, str], set_to: dict[int, str]) -> None:
