@@ -3,9 +3,10 @@
 
 Starts the command twice, with COM1s that are the two ends of a socket, and with COM2 at standard input and output. Waits until both
 machines ask which end they are. Types to each its letter, first that of the left one. Both have to say that they sent and received
-everything without an error, and to end well. Prints how long it took. Each says how far it is; if both say nothing for a while, they are
-stopped.
+everything without an error, and to end well when both have said so and something is typed again. Prints how long it took. Each says how far
+it is; if both say nothing for a while, they are stopped.
 """
+import contextlib
 import os
 import selectors
 import socket
@@ -18,6 +19,7 @@ from patience import Patience
 
 QUESTION = b"which end of the cable?\r\n"
 WANTED = b"sent 1048576, received 1048576, errors 00\r\n"
+LAST = b" times\r\n"  # how the last line of each ends
 PATIENCE = 60  # seconds in which the machines work or sleep and send no byte, after which they are stopped
 DONE = 33  # the status of a kernel that is done
 
@@ -36,6 +38,11 @@ def main():
         listen(machines, found, lambda text: QUESTION in text)
         for machine, letter in zip(machines, letters):
             machine.stdin.write(letter.encode())
+        listen(machines, found, lambda text: LAST in text)
+        for machine in machines:
+            # One that has ended has said why.
+            with contextlib.suppress(BrokenPipeError):
+                machine.stdin.write(b"\n")
         listen(machines, found, lambda text: False)
         statuses = [Patience(machines, PATIENCE).end(machine) for machine in machines]
     finally:

@@ -239,5 +239,7 @@ extern "C" fn kernel_main() -> ! {
         &mut console,
         format_args!("the receive ring was full {} times", received.full),
     );
+    // An emulator that ends takes with it what the other one has not yet read of the socket.
+    typed(&mut console);
     end(End::Done)
 }
