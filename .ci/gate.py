@@ -6,6 +6,7 @@ A script here imports it by `sys.dont_write_bytecode = True; import gate`: Pytho
 import contextlib
 import fcntl
 import fnmatch
+import functools
 import hashlib
 import json
 import os
@@ -22,6 +23,9 @@ from typing import Any, NamedTuple, NoReturn
 
 TOP = pathlib.Path(__file__).resolve().parent.parent
 COUNTED = re.compile(r"^(\d+) passed, (\d+) failed")
+# The committed counts, and a line of them.
+COUNTS = TOP / ".ci" / "counts"
+LEAST = re.compile(r"^ *(\d+) ([^,]+)(?:, (\d+) without (.+))?$")
 # How a line names what failed.
 FAILURE = re.compile(r"FAILED|: failed\b")
 BEGAN = time.monotonic()
@@ -150,25 +154,43 @@ def in_turn(name: str, what: str) -> Iterator[bool]:
 # ---- commands
 
 
+class Least(NamedTuple):
+    """How many a command counts at least, and how many if it skips what it `needs`, which not every machine can install. One that needs
+    nothing may skip, and counts as many."""
+
+    whole: int = 1
+    few: int = 1
+    needs: str = ""
+
+    def line(self, words: str) -> str:
+        return f"{self.whole:>5} {words}" + (f", {self.few} without {self.needs}" if self.needs else "")
+
+
+@functools.cache
+def leasts() -> dict[str, Least]:
+    """Returns what the committed counts say, by the words of each command."""
+    told: dict[str, Least] = {}
+    for line in COUNTS.read_text(encoding="utf-8").splitlines():
+        found = LEAST.match(line)
+        if found:
+            told[found[2]] = Least(int(found[1]), int(found[3] or found[1]), found[4] or "")
+        elif line and not line.startswith("#"):
+            sys.exit(f".ci/counts: neither a count with a command nor a comment: {line}")
+    return told
+
+
 class Command:
     """A command of the repository that counts what passed: its words, the commands that it waits for, and what of the checkout it does not
     read, as patterns whose * takes / too. `but` names exceptions. So a new file counts for all until somebody says otherwise, and
     `.ci/inputs` shows whether a command reads what is excepted here. One that is `always` run is never taken from an earlier run.
 
-    A command that tests nothing has failed, unless `needs` says what it cannot do without, which not every machine can install."""
+    A command that counts less than its line of `.ci/counts` has failed, and one without a line if it tests nothing."""
 
     def __init__(
-        self,
-        words: str,
-        after: Sequence[str] = (),
-        without: Sequence[str] = (),
-        but: Sequence[str] = (),
-        always: bool = False,
-        nice: int = 0,
-        needs: str = "",
+        self, words: str, after: Sequence[str] = (), without: Sequence[str] = (), but: Sequence[str] = (), always: bool = False, nice: int = 0
     ) -> None:
         self.words, self.after, self.without, self.but, self.always, self.nice = words, after, without, but, always, nice
-        self.needs = needs
+        self.least, self.has_counted = leasts().get(words, Least()), False
         self.passed = self.failed = self.skipped = 0
         self.wall = self.cpu = 0.0
         self.status, self.is_running = "not run", False
@@ -185,10 +207,10 @@ class Command:
         """Takes what an earlier run of the same counted, and returns whether there was one."""
         told = kept("green", key)
         # What was skipped for want of a package may be there tomorrow.
-        if told and told["skipped"] and time.time() - told["at"] > DAY:
+        if told and (told["skipped"] and time.time() - told["at"] > DAY or told["passed"] < self.enough(bool(told["skipped"]))):
             return False
         if told:
-            self.told = told
+            self.told, self.has_counted = told, True
             self.passed, self.status = told["passed"], f"kept: as on {told['when']}, when it took {told['wall']:.0f} s"
             self.skipped = len(told["skipped"])
             self.lines = [f"kept: {self.words}: {told['passed']} passed with the same files and tools on {told['when']}", *told["skipped"]]
@@ -220,10 +242,20 @@ class Command:
         self.skipped = sum(line.startswith("skipped") for line in self.lines)
         # One that fails without counting a failure is a failure, and so is one that was cut off before it counted.
         self.failed = self.failed or int(began.returncode != 0 or counts and not counted)
-        self.status = "failed" if self.failed else "passed"
-        if counts and not (self.passed or self.failed):
-            self.status = f"tested nothing: it needs {self.needs}" if self.needs else "failed: it tested nothing"
-            self.failed, self.skipped = int(not self.needs), max(self.skipped, int(bool(self.needs)))
+        self.has_counted = counts and not self.failed
+        least = self.enough(self.skipped > 0)
+        self.status = "failed" if self.failed else "passed" if self.passed or not counts else f"tested nothing: it needs {self.least.needs}"
+        if self.has_counted and self.passed < least:
+            self.fail(f"{self.passed} counted, and {least} is the least: are checks gone?")
+
+    def enough(self, skips: bool) -> int:
+        """Returns how many it has to count."""
+        return self.least.few if skips else self.least.whole
+
+    def fail(self, why: str) -> None:
+        """Counts one failure, for a reason that the command does not say itself."""
+        self.failed, self.status = max(self.failed, 1), f"failed: {why}"
+        self.lines.append(f"FAILED: {why}")
 
     def keep(self, key: str) -> None:
         """Keeps that the command passed. One that tested nothing has shown nothing."""

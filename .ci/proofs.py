@@ -271,7 +271,7 @@ def prove(
 
 
 def is_library(crate: Crate) -> bool:
-    return not (crate.is_program or crate.is_static)
+    return not crate.is_program
 
 
 def told(out: str) -> str:

@@ -3,17 +3,18 @@
 What documents say and quote, and how long lines are; whether what ships stands alone; whether pictures and the Rust packages are what the
 repository makes; then every proof, every test and program of the proved crates, and beside them the tests of the eraser and of the Rust
 packages, their documentation, the page in a browser, and the commands of the READMEs, which need no proof; and then side by side what needs
-what was proved: what laws ask for, refused memory, uart_port on an emulated PC, the programs, the emitted Rust compared with the proved MIR,
+what was proved: what laws ask for, uart_port on an emulated PC, the programs, the emitted Rust compared with the proved MIR,
 the C made of it, kernels and U-Boot over that, the wrong bodies of the gate, the example monitors, the tty driver in Linux, Linux on the
-device for monitors, the library for C, and the Rust packages compared with it.
+device for monitors.
 
 A command that passed on this machine with the same files, tools and kit is not run again: its line names it and says what it counted then.
 `rt ci` is always run, and decides by itself what it keeps. With CI=true, as the machine has it that lands changes, or CI=full everything is
 run, and nothing is taken that an earlier run kept but proofs, which the kit checks; a checkout that is changed meanwhile fails. With WORDs
 only the commands whose name has one of them are run, which is not the gate.
 
-What cannot be installed is skipped by name. A command that tests nothing has failed, but for those whose entry says what they need. Each
-minute a line says what is running. At the end are tables of seconds, of the commands and of the proofs, and of sizes, and what failed by
+What cannot be installed is skipped by name. How many each command counts at least is in .ci/counts: one that counts less has failed, and so
+has one that is not run or not there. Each minute a line says what is running. At the end are tables of seconds, of the commands and of the
+proofs, and of sizes, the lines of .ci/counts that this run would write otherwise, with the whole file for who means it, and what failed by
 name; the last line is 'N passed, M failed' over all commands, kept ones too, with ', K skipped' behind it if something was skipped, and the
 status is 0 if nothing failed. What takes hours is in .ci/nightly.
 """
@@ -39,15 +40,11 @@ PROOFS = ["crates/*/proofs/*", "crates/*/wrong-bodies"]
 # The pages that commands compare with code, and what is in .ci and is such a command.
 C_PAGES = ["docs/C.md", "docs/C_INTERRUPTS.md", "docs/HARDWARE.md", "docs/MANUAL.md", "docs/AUDIT.md", "docs/TROUBLE.md"]
 
-CI, C = "rt ci", "./prove --after-ci uart_c"
-# The code that is proved of that library, of which C is made too.
-CODE_OF_C = "./prove --after-ci --library uart_c"
-USES = dict(re.findall(r"^(\w+)[^:#\n]*:(.*)$", (gate.TOP / "crates.txt").read_text(encoding="utf-8"), re.M))
-OF_C = [f"{CI}: {one}" for one in USES["uart_c"].split() if one in USES]
+CI = "rt ci"
 SETTLED = re.compile(r"rt: (\w+) (?:proved|is kept: .*)$")
 # The fast ones, one after the other. Who forgot to renew something hears of it within half a minute, before anything is proved.
 FIRST = [
-    Command(".ci/lint", always=True, needs="mypy, flake8 and black"),
+    Command(".ci/lint", always=True),
     Command(".ci/tests", always=True),
     Command(".ci/documents", always=True),
     Command(".ci/theorems", always=True),
@@ -72,26 +69,21 @@ OF_RUST = [*PAGES, "crates/*", "bench/*", "tools/*"]
 OF_THE_PAGE = [*PAGES, *PROOFS, "crates/*", "bench/*", "tools/*", "c/*"]
 READMES = [*C_PAGES, "README.md", "*/README.md", "*/COMPAT.md"]
 # What tests in Rust include beside what cargo builds.
-INCLUDED = ["docs/PROVED.md", "docs/EVIDENCE.md", "bench/interrupts/src/counting.rs"]
+INCLUDED = ["docs/PROVED.md", "crates/uart_judges_runs/src/laws.rt", "bench/interrupts/src/counting.rs"]
 # What users of these files have: how they are installed, their tests, the page, and what they cost.
 OF_USERS_OF_C = [*PAGES, "crates/*", "bench/*", "tools/eraser/*", "integration/*", "examples/*"]
 
 
-def beside(words: str, without: Sequence[str] = (*PAGES, *PROOFS), but: Sequence[str] = C_PAGES, needs: str = "") -> Command:
+def beside(words: str, without: Sequence[str] = (*PAGES, *PROOFS), but: Sequence[str] = C_PAGES) -> Command:
     """A command that needs no proof: it gives way to the proofs, on which all else waits."""
-    return Command(words, without=without, but=but, nice=19, needs=needs)
+    return Command(words, without=without, but=but, nice=19)
 
 
 def over(
-    words: str,
-    after: Sequence[str] = (CI,),
-    without: Sequence[str] = (*PAGES, "crates/*/wrong-bodies"),
-    but: Sequence[str] = C_PAGES,
-    nice: int = 0,
-    needs: str = "",
+    words: str, after: Sequence[str] = (CI,), without: Sequence[str] = (*PAGES, "crates/*/wrong-bodies"), but: Sequence[str] = C_PAGES, nice: int = 0
 ) -> Command:
     """A command over what `rt ci` builds: that depends on the sources of the crates, which the sums have."""
-    return Command(words, after, without, but, nice=nice, needs=needs)
+    return Command(words, after, without, but, nice=nice)
 
 
 COMMANDS = [
@@ -102,27 +94,26 @@ COMMANDS = [
     beside("integration/readme", without=OF_RUST, but=[*READMES, *INCLUDED]),
     beside("integration/packages", without=OF_RUST, but=READMES),
     beside("rust/tests/interface", without=OF_RUST, but=[*READMES, "CHANGELOG.md"]),
-    beside("integration/rust apart"),
-    beside("integration/original", without=OF_RUST, needs="the folder of the original crate, in ORIGINAL"),
-    beside("bench/measure-size --check", without=OF_RUST, but=["bench/*"], needs="Debian's rustc-web"),
+    beside("integration/rust"),
+    beside("integration/original", without=OF_RUST),
+    beside("bench/measure-size --check", without=OF_RUST, but=["bench/*"]),
     beside("integration/doc", without=OF_RUST, but=READMES),
-    over(".ci/refused-memory", but=[".ci/refused-memory"]),
-    over("integration/port", without=OF_RUST, needs="an emulator of a PC"),
+    over("integration/port", without=OF_RUST),
     over("integration/programs"),
-    beside("integration/web", without=OF_THE_PAGE, needs="what builds WebAssembly"),
+    beside("integration/web", without=OF_THE_PAGE),
     over("tools/eraser/mir/compare"),
     over("tools/c/emit --check driver"),
     over("tools/c/emit --check console"),
-    over("tools/c/emit --check port", after=[CODE_OF_C]),
+    over("tools/c/emit --check port"),
     over("tools/c/compare driver", nice=19),
     over("tools/c/compare console", nice=19),
-    over("tools/c/compare port", after=[C, CODE_OF_C], nice=19),
+    over("tools/c/compare port", nice=19),
     Command(".ci/premises", after=[CI], always=True, nice=19),
     # Nothing waits for these, and they take all cores.
     Command(".ci/wrong-bodies --after-ci --in-the-gate", after=[CI], always=True, nice=19),
-    beside("integration/c-kernels", without=OF_RUST, needs="compilers and emulators of its boards"),
+    beside("integration/c-kernels", without=OF_RUST),
     beside("integration/census", without=OF_RUST, but=["docs/CHIPS.md"]),
-    beside("integration/boot-loaders u-boot", without=OF_RUST, needs="sources of U-Boot"),
+    beside("integration/boot-loaders u-boot", without=OF_RUST),
     beside(
         "integration/c",
         without=OF_USERS_OF_C,
@@ -134,21 +125,18 @@ COMMANDS = [
             "integration/bounds",
             "integration/c",
             "bench/callbacks.c",
+            "bench/port.c",
             "bench/README.md",
+            "examples/choose/*",
+            "examples/monitor/*",
         ],
     ),
-    # It waits for the libraries below alone, and so runs beside what `rt ci` does last: that proves this crate too, and does not build it.
-    Command(C, after=OF_C, always=True),
-    # This one waits for all of `rt ci`, which removes what it finds of a library for C.
-    Command(CODE_OF_C, after=[CI], always=True),
-    over("integration/library", after=[C], nice=19),
-    over("integration/rust compare", after=[C], nice=19),
     # These wait for other machines as a person would. Each takes less than a core, so they run side by side, and nothing else beside them.
-    over("integration/monitor", without=OF_RUST, needs="KVM, or an emulator that has it"),
-    over("integration/linux", without=OF_RUST, needs="Debian's kernel and an emulator"),
+    over("integration/monitor", without=OF_RUST),
+    over("integration/linux", without=OF_RUST),
     # These wait for nothing, and take a core.
-    beside("integration/c-monitor", without=OF_RUST, needs="KVM, or an emulator that has it"),
-    over("integration/guest", without=OF_RUST, needs="an emulator and Debian's kernel"),
+    beside("integration/c-monitor", without=OF_RUST),
+    over("integration/guest", without=OF_RUST),
 ]
 ALONE = 4
 for alone in COMMANDS[-ALONE:]:
@@ -203,7 +191,7 @@ def run(command: Command, found: dict[str, str], machine: str, logs: pathlib.Pat
     if is_ci:
         clear_libraries()
     say(f"runs: {command.words}")
-    command.run(told_by_ci if is_ci else None, counts=command.words not in (C, CODE_OF_C))
+    command.run(told_by_ci if is_ci else None, counts=True)
     (logs / re.sub(r"\W+", "-", command.words)).write_text("\n".join(command.lines) + "\n", encoding="utf-8")
     say(f"ran: {command.words}: {command.wall:.0f} s, {command.cpu:.0f} cpu s", *([] if is_ci else command.lines))
     # What was changed meanwhile may have been read before or after.
@@ -238,13 +226,41 @@ def run_all(left: list[Command], found: dict[str, str], machine: str, logs: path
                 ended.result()
                 one = running.pop(ended)
                 # The others say more on their own. Without these there is nothing to look at, or it is of some time ago.
-                failed |= {one.words} if one.failed and one.words in (CI, C, CODE_OF_C) else set()
+                failed |= {one.words} if one.failed and one.words == CI else set()
 
 
 def sizes() -> list[str]:
     """What there is of each kind, and what this change added: who reads a green line is to see what it cost."""
     told = subprocess.run([gate.TOP / ".ci" / "sizes"], stdin=subprocess.DEVNULL, stdout=subprocess.PIPE, text=True, check=False)
     return told.stdout.splitlines()
+
+
+def fail_what_no_line_fits(chosen: list[Command], told: dict[str, gate.Least], is_whole: bool) -> None:
+    """Fails each command that the counts do not name, and adds as failed those that they name and the gate does not have."""
+    for one in chosen:
+        if one.words not in told:
+            one.fail("it has no line in .ci/counts")
+    for words in told.keys() - {one.words for one in chosen} if is_whole else ():
+        chosen.append(Command(words))
+        chosen[-1].fail("it has a line in .ci/counts, and the gate does not run it")
+
+
+def counts(told: dict[str, gate.Least], commands: list[Command]) -> dict[str, gate.Least]:
+    """Returns the lines as commands count now, in their order. One that skipped, failed otherwise or was not run keeps its line."""
+    now = {}
+    for one in commands:
+        least = told.get(one.words, gate.Least())
+        now[one.words] = least._replace(whole=one.passed) if one.has_counted and not one.skipped else least
+    return now
+
+
+def write_counts(told: dict[str, gate.Least], path: pathlib.Path) -> list[str]:
+    """Writes the counts as they are now into a file, and returns their lines that are others."""
+    now = counts(told, COMMANDS)
+    head = [line for line in gate.COUNTS.read_text(encoding="utf-8").splitlines() if line.startswith("#")]
+    path.write_text("\n".join([*head, *(least.line(words) for words, least in now.items())]) + "\n", encoding="utf-8")
+    others = [least.line(words) for words, least in now.items() if told.get(words) != least]
+    return [f"Lines of .ci/counts as this run counts them; with them all of it is {path}:", *others] if others else []
 
 
 def is_green(commands: list[Command], is_same: bool) -> bool:
@@ -276,6 +292,9 @@ def main() -> bool:
                 one.keep(one.key(found, now))
     say(*clock.table(), *gate.table(chosen), f"All took {time.monotonic() - gate.BEGAN:.0f} s. What each command printed is in {logs}.")
     say(*sizes())
+    told = gate.leasts()
+    say(*write_counts(told, logs / "counts"))
+    fail_what_no_line_fits(chosen, told, not words)
     is_same = gate.files() == found
     has_passed = is_green(chosen, is_same)
     if has_passed and is_same and not words:

@@ -10,6 +10,7 @@ list may have too much, but not too little.
 from __future__ import annotations
 
 import collections
+import functools
 import hashlib
 import pathlib
 import re
@@ -408,6 +409,13 @@ def digest(items: Iterable[Item]) -> str:
     """A short sum of statements, definitions and declarations, whatever their order and layout."""
     told = sorted(f"{one.path}\n{one.name}\n{' '.join(one.text.split())}" for one in items)
     return hashlib.sha256("\n\n".join(told).encode()).hexdigest()[:12]
+
+
+@functools.cache
+def evidence() -> str:
+    """The page of evidence with its rows, which git does not have: they are made of the comments at the laws."""
+    ran = subprocess.run([TOP / ".ci" / "terms", "--page", EVIDENCE], capture_output=True, text=True, check=True)
+    return ran.stdout
 
 
 def rows_of(text: str) -> Iterator[tuple[list[str], set[str]]]:

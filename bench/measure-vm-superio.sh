@@ -1,6 +1,6 @@
 #!/bin/sh
-# Counts the instructions of the chip of rust/uart_16550_chip and of vm-superio's serial device with callgrind, as measure-library.sh does
-# those of the library for C. Run it at the top of a checkout. Prints whose code it is, what is called, how many instructions a call takes
+# Counts the instructions of the chip of rust/uart_16550_chip and of vm-superio's serial device with callgrind, as tools/c/measure --speed
+# does those of c/uart_port.c. Run it at the top of a checkout. Prints whose code it is, what is called, how many instructions a call takes
 # inside the functions that are counted, and these functions; then how often each device triggers the interrupt under Linux's driver.
 # Without Debian's package librust-vm-superio-dev only the chip is counted.
 fail() {

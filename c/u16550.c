@@ -255,6 +255,12 @@ struct uart_slices {
     struct uart_slice rest;
 };
 
+/* What serving interrupts did. */
+struct uart_served {
+    struct u16550_handled handled;
+    bool has_room;
+};
+
 struct uart_handled_or_stuck_error {
     struct u16550_core_stuck_error error;
     struct u16550_handled value;
@@ -1896,6 +1902,11 @@ uart_set_up(struct u16550_core_driver *uart, struct u16550_core_config config, u
  * whether the FIFOs are on. SPR is unchanged. Bytes that were in the transmitter FIFO may be lost
  * by the reset.
  *
+ * A character in the shift register is not waited for before divisor and frame change, so the
+ * other end may receive it broken. One that is arriving may be received broken here, after
+ * u16550_init has returned. On a line that is in use call u16550_init_with with First, which waits
+ * before it writes them.
+ *
  * Without a trigger level the FIFOs are off, and bytes are sent one at a time. Some versions of
  * QEMU were reported to stall in this mode.
  *
@@ -2163,6 +2174,10 @@ static bool uart_change_fifos(struct u16550_core_driver *uart, uint8_t action)
  * left out of the outputs. Afterwards the driver's configuration has no interrupts. u16550_init,
  * or u16550_restore with a dump that was made before, takes the port up again.
  *
+ * Reads no received byte. Some chips show DATA_READY behind a reset of the FIFOs, or after they
+ * were turned off: a receive behind this call may return a byte from before, or one that never
+ * arrived. u16550_init discards it.
+ *
  * Proved: all interrupts are disabled, the outputs are written to MCR, without loopback, and then
  * FCR, if the FIFOs are to be reset or disabled.
  */
@@ -2421,6 +2436,10 @@ uart_config_register_dump_divisor(const struct u16550_dump *config_register_dump
  * does not show its own, and ISR tells whether they are on now (fifo_enabled). DLAB and LOOP_BACK
  * are left out. Does not wait, and discards nothing that is saved for the next u16550_lsr or
  * u16550_msr. The other fields of the configuration stay as they are.
+ *
+ * Reads no received byte. On a chip that shows DATA_READY behind the reset of its FIFOs the next
+ * receive may return a byte from before, or one that never arrived: receive what waits, and
+ * discard it.
  *
  * Proved: divisor and frame, the FIFOs, and then MCR without loopback, SPR and IER are written as
  * the dump has them. If it has the FIFOs on, ISR shows whether they are.
@@ -4320,27 +4339,33 @@ static inline bool uart_ring_has_sendable(const struct u16550_core_ring *ring)
 }
 
 /*
+ * Enables THR_EMPTY if bytes are left that may be sent, else disables it.
+ *
+ * IER is read and written each time, even if it need not change: only the chip knows what IER
+ * holds, and a caller may have changed it.
+ *
+ * Proved: THR_EMPTY is enabled if bytes are left to be sent, else disabled.
+ */
+static inline void uart_ring_arm_if_left(struct u16550_core_ring *ring)
+{
+    if (uart_ring_has_sendable(ring))
+        uart_enable_interrupts(&ring->uart, U16550_IER_THR_EMPTY);
+    else
+        uart_disable_interrupts(&ring->uart, U16550_IER_THR_EMPTY);
+}
+
+/*
  * Sends bytes that may be sent if the chip has room. Then enables THR_EMPTY if such bytes are
  * left, else disables it.
  *
  * The bytes are sent first, because not every chip interrupts when THR_EMPTY is enabled on an
  * empty transmitter. If bytes are left, the chip was found full or has just been filled, so it
  * still has to report that it is empty.
- *
- * IER is read and written each time, even if it need not change: only the chip knows what IER
- * holds, and a caller may have changed it.
- *
- * Proved: a pump: u16550_send_bytes of the bytes that may be sent, which is one burst of them, and
- * those that were sent no longer wait; then THR_EMPTY is enabled or disabled. Without an urgent
- * byte, a hold or a stuck chip these are the bytes of the transmit ring.
  */
 static inline void uart_ring_pump(struct u16550_core_ring *ring)
 {
     uart_ring_drop_sent(ring, uart_ring_send_sendable(ring));
-    if (uart_ring_has_sendable(ring))
-        uart_enable_interrupts(&ring->uart, U16550_IER_THR_EMPTY);
-    else
-        uart_disable_interrupts(&ring->uart, U16550_IER_THR_EMPTY);
+    uart_ring_arm_if_left(ring);
 }
 
 /*
@@ -4648,14 +4673,27 @@ static inline bool uart_isr_has_pending_interrupt(uint8_t isr)
 }
 
 /*
- * Notes the errors that LSR shows, and those that the driver has saved.
+ * Notes the errors that LSR shows, and those that the driver has saved. Returns both with the
+ * other bits of LSR.
  *
  * Proved: u16550_lsr, of which the line errors are noted.
  */
-static inline void uart_ring_note_line(struct u16550_core_ring *ring)
+static inline uint8_t uart_ring_note_line(struct u16550_core_ring *ring)
 {
-    uint8_t lsr = uart_lsr(&ring->uart) & U16550_LSR_LINE_ERRORS;
-    ring->line |= lsr;
+    uint8_t status = uart_lsr(&ring->uart);
+    ring->line |= status & U16550_LSR_LINE_ERRORS;
+    return status;
+}
+
+/*
+ * Notes the errors of a line status. Returns whether this sends and LSR shows room.
+ *
+ * Proved: a line status: its errors are noted, and if this sends also whether LSR shows room.
+ */
+static inline bool uart_ring_serve_line(struct u16550_core_ring *ring, bool sends)
+{
+    uint8_t status = uart_ring_note_line(ring);
+    return sends && (status & U16550_LSR_THR_EMPTY) != 0;
 }
 
 /*
@@ -4737,6 +4775,49 @@ static void uart_ring_fill_receive_ring(struct u16550_core_ring *ring)
 }
 
 /*
+ * Sends as a pump does, but leaves IER as it is if nothing is sent.
+ *
+ * why: if the chip has no room, or CTS is clear, nothing has changed for the bytes that wait; and
+ * to enable THR_EMPTY on an empty transmitter would raise one more interrupt.
+ */
+static inline void uart_ring_send_on(struct u16550_core_ring *ring)
+{
+    size_t burst = uart_ring_send_sendable(ring);
+    if (burst > 0) {
+        uart_ring_drop_sent(ring, burst);
+        uart_ring_arm_if_left(ring);
+    }
+}
+
+/*
+ * Sends, if a line status has shown room.
+ *
+ * Proved: if a line status has shown room, what the chip takes at once is sent.
+ */
+static inline void uart_ring_send_on_if(struct u16550_core_ring *ring, bool has_room)
+{
+    if (has_room)
+        uart_ring_send_on(ring);
+}
+
+/*
+ * Receives bytes. Then sends, if a line status has shown room.
+ *
+ * why: where THR_EMPTY and received data are due together, some chips show a line status, and that
+ * read of ISR acknowledges the THR_EMPTY. LSR shows the room all the same. And a THR_EMPTY that
+ * got lost is made up for here. why: behind the data, and not at the line status: a burst ahead of
+ * the first byte would take time that the receiver may not have.
+ *
+ * Proved: data: bytes are received; and then what the chip takes is sent, if a line status has
+ * shown room.
+ */
+static inline void uart_ring_serve_data(struct u16550_core_ring *ring, bool has_room)
+{
+    uart_ring_fill_receive_ring(ring);
+    uart_ring_send_on_if(ring, has_room);
+}
+
+/*
  * Notes the changes that MSR shows, and those that the driver has saved.
  *
  * Proved: u16550_msr, of which the changes are noted.
@@ -4748,31 +4829,33 @@ static inline void uart_ring_note_modem(struct u16550_core_ring *ring)
 }
 
 /*
- * Serves one interrupt.
+ * Serves one interrupt. Takes and returns whether a line status has shown room, behind which
+ * nothing was sent. Only a handler sends there.
  *
  * Proved: how an interrupt is served: bytes are received, a pump is made, a status is noted, or
- * nothing is done.
+ * nothing is done; and whether a line status has shown room, before it and after it, behind which
+ * nothing was sent.
  */
-static UART_NO_TABLE void uart_ring_serve(struct u16550_core_ring *ring, uint8_t interrupt)
+static UART_NO_TABLE bool
+uart_ring_serve(struct u16550_core_ring *ring, uint8_t interrupt, bool sends, bool has_room)
 {
     switch (interrupt) {
     case U16550_CORE_INTERRUPT_TYPE_RECEIVER_LINE_STATUS:
-        uart_ring_note_line(ring);
-        break;
+        return uart_ring_serve_line(ring, sends);
     case U16550_CORE_INTERRUPT_TYPE_RECEIVED_DATA_READY:
     case U16550_CORE_INTERRUPT_TYPE_RECEPTION_TIMEOUT:
-        uart_ring_fill_receive_ring(ring);
-        break;
+        uart_ring_serve_data(ring, has_room);
+        return false;
     case U16550_CORE_INTERRUPT_TYPE_TRANSMITTER_HOLDING_REGISTER_EMPTY:
         uart_ring_pump(ring);
-        break;
+        return false;
     case U16550_CORE_INTERRUPT_TYPE_MODEM_STATUS:
         uart_ring_note_modem(ring);
-        break;
+        return has_room;
     case U16550_CORE_INTERRUPT_TYPE_DMA_RECEPTION_END_OF_TRANSFER:
     case U16550_CORE_INTERRUPT_TYPE_DMA_TRANSMISSION_END_OF_TRANSFER:
     default:
-        break;
+        return has_room;
     }
 }
 
@@ -4782,23 +4865,24 @@ static UART_NO_TABLE void uart_ring_serve(struct u16550_core_ring *ring, uint8_t
  *
  * Proved: as many interrupts as are pending are served, but no more than the limit.
  */
-static UART_NO_TABLE struct u16550_handled
-uart_ring_serve_up_to(struct u16550_core_ring *ring, size_t limit)
+static UART_NO_TABLE struct uart_served
+uart_ring_serve_up_to(struct u16550_core_ring *ring, size_t limit, bool sends)
 {
+    bool has_room = false;
     for (size_t served = 0; served < limit; served++) {
         uint8_t isr = uart_isr(&ring->uart);
         uint8_t interrupt;
         if (!uart_interrupt_type_from_bits(isr, &interrupt)) {
-            struct u16550_handled handled =
-                { served,
+            struct uart_served served2 =
+                { { served,
                 uart_isr_has_pending_interrupt(isr) ? (uint8_t)U16550_HANDLE_UNKNOWN
-                : (uint8_t)U16550_HANDLE_IDLE };
-            return handled;
+                : (uint8_t)U16550_HANDLE_IDLE }, has_room };
+            return served2;
         }
-        uart_ring_serve(ring, interrupt);
+        has_room = uart_ring_serve(ring, interrupt, sends, has_room);
     }
-    struct u16550_handled at_limit = { limit, U16550_HANDLE_LIMIT };
-    return at_limit;
+    struct uart_served served3 = { { limit, U16550_HANDLE_LIMIT }, has_room };
+    return served3;
 }
 
 /*
@@ -4825,6 +4909,16 @@ static inline void uart_ring_retrigger(struct u16550_core_ring *ring)
     uart_retrigger_interrupts(&ring->uart);
 }
 
+/* Triggers what is left again, and sends before that, if a line status has shown room. */
+static inline void
+uart_ring_retrigger_unless_idle(struct u16550_core_ring *ring, bool has_room, uint8_t end)
+{
+    if (end != U16550_HANDLE_IDLE) {
+        uart_ring_send_on_if(ring, has_room);
+        uart_ring_retrigger(ring);
+    }
+}
+
 /*
  * Handles the chip's interrupt: serves what is pending, as u16550_ring_service does, but at most
  * limit interrupts. Returns how many it served, and why it ended.
@@ -4837,6 +4931,10 @@ static inline void uart_ring_retrigger(struct u16550_core_ring *ring)
  * - Otherwise an interrupt may be left, and u16550_ring_handle makes the line fall and rise again,
  *   as u16550_ring_retrigger does. So the controller calls the handler again.
  *
+ * At a line status it notes whether LSR shows room. If so, it sends bytes that wait behind the
+ * next received data, though ISR shows no THR_EMPTY: where both are due, some chips show a line
+ * status.
+ *
  * A broken chip may show interrupts for ever, and the controller then calls the handler for ever.
  * So count the calls in a row that do not end with U16550_HANDLE_IDLE, and after a number of them
  * disable the chip's interrupts.
@@ -4844,16 +4942,16 @@ static inline void uart_ring_retrigger(struct u16550_core_ring *ring)
  * Does not wait: makes at most 35 accesses for each interrupt of the limit, and 3 more. With a
  * larger fifo_size of the driver it is twice that size and 3 in place of the 35.
  *
- * Proved: as many interrupts as are pending are served, but no more than the limit. Then, unless
- * ISR has shown that none is pending, IER is read, and written with 0 and with what was read: what
- * is left is triggered again.
+ * Proved: as many interrupts as are pending are served, but no more than the limit; if a line
+ * status shows room, bytes that wait are sent behind the data that comes next. Then, unless ISR
+ * has shown that none is pending, IER is read, and written with 0 and with what was read: what is
+ * left is triggered again.
  */
 static inline struct u16550_handled uart_ring_handle(struct u16550_core_ring *ring, size_t limit)
 {
-    struct u16550_handled handled = uart_ring_serve_up_to(ring, limit);
-    if (handled.end != U16550_HANDLE_IDLE)
-        uart_ring_retrigger(ring);
-    return handled;
+    struct uart_served round = uart_ring_serve_up_to(ring, limit, true);
+    uart_ring_retrigger_unless_idle(ring, round.has_room, round.handled.end);
+    return round.handled;
 }
 
 /*
@@ -5328,7 +5426,8 @@ static inline void uart_ring_restart(struct u16550_core_ring *ring, uint8_t inte
  * CTS returns. After such a change, which u16550_ring_take_modem reports, call
  * u16550_ring_resume_transmit.
  *
- * Proved: at most 8 interrupts are served. It tells how many, and not why it ended.
+ * Proved: at most 8 interrupts are served, and bytes are sent at THR-empty alone. It tells how
+ * many, and not why it ended.
  */
 static inline size_t uart_ring_service(struct u16550_core_ring *ring)
 {
@@ -5337,7 +5436,7 @@ static inline size_t uart_ring_service(struct u16550_core_ring *ring)
      * stays high no edge comes. So this call is for programs that poll, and u16550_ring_handle
      * for handlers.
      */
-    return uart_ring_serve_up_to(ring, UART_MAX_INTERRUPTS).served;
+    return uart_ring_serve_up_to(ring, UART_MAX_INTERRUPTS, false).handled.served;
 }
 
 /*
@@ -6091,6 +6190,14 @@ static inline uint32_t uart_rx_spare(const struct u16550_core_config *config, ui
  * of ISR of the whole handler. At a line of its own this is 0. If a line error is told first, the
  * first byte is read four accesses after ISR. Nothing is left either if two accesses, as each byte
  * needs, take longer than a character.
+ *
+ * A character takes as long as this configuration says. The other end must be no faster, also by
+ * its stop bits: an end that sends one takes less time than two, and this end sees no difference.
+ *
+ * The result counts no other accesses of a visit of the handler. If one takes a quarter of a
+ * character or more, a visit may meet each character that comes meanwhile as an interrupt of its
+ * own, and end by its limit and not with U16550_HANDLE_IDLE. Then characters are lost in spite of
+ * the result, and at half a character even if the handler comes at once.
  *
  * Errors
  *

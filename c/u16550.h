@@ -41,8 +41,8 @@ extern "C" {
 #endif
 
 /* The version of this header. u16550_version returns that of the library. */
-#define U16550_VERSION "0.9.0"
-#define U16550_VERSION_NUMBER 900
+#define U16550_VERSION "0.11.0-dev"
+#define U16550_VERSION_NUMBER 1100
 
 enum u16550_status { U16550_OK = 0 };
 
@@ -864,7 +864,8 @@ int u16550_character_clocks(const struct u16550_config *config, uint64_t *clocks
  * read of ISR, at the trigger level of the configuration. An access takes at most access_clocks, which u16550_clocks_covering has of
  * nanoseconds. At a line that several ports share, those before this one are served first, for at most before_clocks; at a line of its own
  * this is 0. With 0 for both it is the time until the first read of DATA. Returns U16550_TIME_NOTHING_LEFT if nothing is left, also if the
- * two accesses of a byte take longer than a character.
+ * two accesses of a byte take longer than a character. The other end must be no faster than the configuration, also by its stop bits. If an
+ * access takes a quarter of a character or more, a visit may end by its limit, and characters are lost in spite of the result.
  */
 /*
  * Proved: how late the handler may begin where an access takes access_clocks, and the others at
@@ -935,7 +936,11 @@ int u16550_clocks_covering(const struct u16550_config *config, uint64_t nanoseco
 /* Proved: the scratch register is read, tested with the patterns, and restored. */
 int u16550_check_present(struct u16550 *uart, uint8_t *present);
 
-/* Sets the device up. Returns an enum u16550_init_error if it cannot be. */
+/*
+ * Sets the device up. Returns an enum u16550_init_error if it cannot be. A character in the shift register is not waited for before
+ * divisor and frame change: the other end may receive it broken, and one that is arriving may be received broken here. On a line
+ * that is in use call u16550_init_with and U16550_WAIT_FIRST.
+ */
 /*
  * Proved: the configuration is stored, the scratch register tested, divisor, frame and FIFO are
  * set, the receiver is drained, and MCR is written; after a wait for an empty transmitter the
@@ -1050,7 +1055,8 @@ int u16550_set_trigger_level(struct u16550 *uart, uint8_t characters);
 
 /*
  * Leaves the port so that the chip interrupts nobody: writes 0 to IER, then the outputs to MCR without loopback, and does with
- * the FIFOs what an enum u16550_fifo_action says. Does not wait.
+ * the FIFOs what an enum u16550_fifo_action says. Does not wait, and reads no received byte: on a chip that shows DATA_READY behind
+ * a reset of its FIFOs, or after they were turned off, the next receive may return one that never arrived. u16550_init discards it.
  */
 /*
  * Proved: all interrupts are disabled, the outputs are written to MCR, without loopback, and then
@@ -1060,7 +1066,8 @@ int u16550_quiesce(struct u16550 *uart, uint8_t outputs, uint8_t fifos);
 
 /*
  * Writes what a dump shows back to the chip, for example after it was without power: divisor and frame without DLAB, FCR, MCR
- * without loopback, SPR, and IER in the end. Both FIFOs are emptied; if they were on, they get the configured trigger level.
+ * without loopback, SPR, and IER in the end. Both FIFOs are emptied; if they were on, they get the configured trigger level. It reads
+ * no received byte, so on a chip as with u16550_quiesce receive what waits, and discard it.
  */
 /*
  * Proved: divisor and frame, the FIFOs, and then MCR without loopback, SPR and IER are written as
@@ -1545,9 +1552,10 @@ int u16550_ring_resume_transmit(struct u16550 *uart);
  * ever. But then the controller calls the handler for ever, unless somebody counts: u16550_ring_try_handle does.
  */
 /*
- * Proved: as many interrupts as are pending are served, but no more than the limit. Then, unless
- * ISR has shown that none is pending, IER is read, and written with 0 and with what was read: what
- * is left is triggered again.
+ * Proved: as many interrupts as are pending are served, but no more than the limit; if a line
+ * status shows room, bytes that wait are sent behind the data that comes next. Then, unless ISR
+ * has shown that none is pending, IER is read, and written with 0 and with what was read: what is
+ * left is triggered again.
  */
 int u16550_ring_handle(struct u16550 *uart, size_t limit, struct u16550_handled *handled);
 
@@ -1587,7 +1595,10 @@ int u16550_ring_retrigger(struct u16550 *uart);
  * Serves the interrupts that are pending, at most U16550_MAX_INTERRUPTS, for a handler of your own. *count is how many. If it
  * is the most, or ISR shows an interrupt without a name, the line may still be high.
  */
-/* Proved: at most 8 interrupts are served. It tells how many, and not why it ended. */
+/*
+ * Proved: at most 8 interrupts are served, and bytes are sent at THR-empty alone. It tells how
+ * many, and not why it ended.
+ */
 int u16550_ring_service(struct u16550 *uart, size_t *count);
 
 /*

@@ -3,13 +3,12 @@
 /*
  * uart_port.h - a 16550A or 16450 serial chip in software, and a serial port for virtual machine monitors over it.
  *
- * Made by tools/c/emit from the code that is proved, and from the headers of the library that the kit builds. Do not edit.
+ * Made by tools/c/emit from the code that is proved, and from the headers in crates/uart_c. Do not edit.
  *
  * This is uart_port.c and uart_port.h alone: C99 that needs stddef.h and stdint.h, and in uart_port.c stdbool.h, and nothing else. It
  * allocates nothing, has no variables, calls no function of yours, and nothing calls itself. All state is in structs of the caller, and
  * two threads may call it at once as long as no struct is in both calls. Whatever bytes a struct holds, each function is defined and
- * stays within it. The structs are those of the library that the kit builds, so a program changes to these files by what it is linked
- * with.
+ * stays within it.
  *
  * A pointer that is null is refused, also one to an array of length 0: the call does nothing, and returns the status that says so, or 0 if
  * it returns none. Any other pointer must be valid and aligned. Pointers that a function writes through must not overlap with its others.

@@ -97,6 +97,7 @@ struct run {
     int is_without_clock;
     uint64_t begin;      /* what the clock showed first */
     uint64_t time;       /* of the last access, since then, in steps of 1024 ns: what a recording has, and all that is decided by */
+    uint64_t in_vain;    /* when the last wait last saw that it had to go on, or when it began */
     int is_wait;         /* the next read is one of a wait, and not its first */
     uint32_t repeats;    /* how many reads of the wait in a row have shown the same */
     uint64_t last_look;  /* what the clock showed last, and for how many looks */
@@ -203,8 +204,11 @@ static uint8_t wait_for(struct run *run, uint8_t bits, uint32_t ms)
     uint64_t start = run->time;
     uint8_t value, errors = 0;
 
+    run->in_vain = start;
     do {
         value = get_lsr(run);
+        if ((value & bits) != bits)
+            run->in_vain = run->time;
         errors |= value & ERRORS;
         run->is_wait = 1;
     } while ((value & bits) != bits && !has_passed(run, start, (uint64_t)ms * MS));
@@ -243,8 +247,11 @@ static uint32_t wait_for_code(struct run *run, uint8_t wanted, uint32_t ms)
     uint64_t start = run->time;
     uint8_t code;
 
+    run->in_vain = start;
     do {
         code = get_code(run);
+        if (code != wanted)
+            run->in_vain = run->time;
         run->is_wait = 1;
     } while (code != wanted && !has_passed(run, start, (uint64_t)ms * MS));
     run->is_wait = 0;
@@ -401,6 +408,19 @@ static uint32_t time_of_character(struct run *run)
     return many > few ? (many - few) / 8 : 0;
 }
 
+/* DSR changes, and then CTS. A chip that notes neither shows nothing of this. */
+static void ask_changes(struct run *run)
+{
+    uint8_t msr;
+
+    begin(run, run->on);
+    put(run, MCR, LOOP | 0x01);
+    put(run, MCR, LOOP | 0x03);
+    msr = get(run, MSR);
+    if ((msr & 0x0f) != 0)
+        note(run, CENSUS_DELTAS_STAY, (msr & 0x02) != 0, msr);
+}
+
 static void ask_fifos(struct run *run)
 {
     uint8_t off, on;
@@ -484,6 +504,50 @@ static void ask_burst(struct run *run)
     note(run, CENSUS_BURST, i == size, i);
 }
 
+/*
+ * As a driver meets the chip most often: THR is empty, and the shift register is not. Returns how many come back of a character and a burst
+ * behind it: CENSUS_OTHERS more, if they are not what was written. `*was_behind` says that the character was still going out.
+ */
+static unsigned count_burst_behind(struct run *run, unsigned size, int *was_behind)
+{
+    unsigned i, count = 0;
+    int are_others = 0;
+    uint64_t start;
+    uint8_t lsr;
+
+    begin(run, run->on);
+    put(run, DATA, 0x30);
+    *was_behind = !(wait_for_room(run) & TEMT);
+    for (i = 1; i <= size; i++)
+        put(run, DATA, 0x30 + i);
+    /* Taken as they come, since a receiver does not hold them all, and by the time alone: a chip that lost some may show anything. */
+    start = run->time;
+    while (count < MOST && !has_passed(run, start, (size + 8ull) * run->character)) {
+        lsr = get_lsr(run);
+        run->is_wait = !(lsr & DR);
+        if (lsr & DR) {
+            are_others |= get(run, DATA) != (uint8_t)(0x30 + count);
+            count++;
+        }
+    }
+    run->is_wait = 0;
+    /* What is left in a transmitter that never shows room ends here. */
+    put(run, FCR, run->on ? run->on | 0x06 : 0);
+    return count + (are_others ? CENSUS_OTHERS : 0);
+}
+
+/* Who looks may be held up until a receiver overruns, so one try in which all come back counts. */
+static void ask_burst_behind(struct run *run)
+{
+    unsigned i, size = run->on ? 16 : 1, count = 0;
+    int was_behind = 0;
+
+    for (i = 0; i < TRIES && !(was_behind && count == size + 1); i++)
+        count = count_burst_behind(run, size, &was_behind);
+    if (was_behind)
+        note(run, CENSUS_BURST_BEHIND, count == size + 1, count);
+}
+
 static void ask_receive_fifo(struct run *run)
 {
     unsigned size = 0, count;
@@ -534,6 +598,8 @@ static void ask_send_fifo(struct run *run)
 static void ask_sizes(struct run *run)
 {
     ask_burst(run);
+    if (run->has_time)
+        ask_burst_behind(run);
     if (!run->on)
         return;
     ask_receive_fifo(run);
@@ -583,18 +649,37 @@ static void ask_level(struct run *run, uint8_t level)
     }
 }
 
+/*
+ * Whether a timeout that was waited for comes three to six characters behind one that was sent at `sent` and took `least` at least. Who
+ * looks may be held up: so it is too early by the look that shows it, and too late by the last one that does not.
+ */
+static void note_timeout(struct run *run, uint64_t sent, uint64_t least)
+{
+    uint64_t arrived = sent + run->character;
+    int is_early = run->time < sent + 4 * least, is_late = run->in_vain > arrived + 6ull * run->character;
+    uint64_t behind = run->time > arrived ? run->time - arrived : 0;
+
+    note(run, CENSUS_TIMEOUT_WHEN, !is_early && !is_late, (uint32_t)(behind * 10 / run->character));
+}
+
 static void ask_timeout(struct run *run)
 {
     uint32_t ns;
+    uint64_t sent, least;
     uint8_t code;
 
     begin(run, 0xc1);
     put(run, IER, 0x01);
-    send(run, 0x41);
+    put(run, DATA, 0x41);
+    sent = run->time;
+    flush(run);
+    least = run->in_vain - sent;
     ns = wait_for_code(run, TIMEOUT, 50);
     note(run, CENSUS_TIMEOUT, ns > 0, (uint32_t)(ns * 10ull / character_of(run)));
     if (ns == 0)
         return;
+    if (run->has_time)
+        note_timeout(run, sent, least);
     send(run, 0x42);
     code = get_code(run);
     note(run, CENSUS_TIMEOUT_KEPT, code == TIMEOUT, code);
@@ -697,6 +782,7 @@ static enum census_end ask_all(struct run *run)
         return CENSUS_NO_LOOPBACK;
     ASK(registers);
     ASK(modem);
+    ask_changes(run);
     /* If the first character does not come back, it may be on the line, and the others are to stay here. */
     ASK(first);
     if (run->rows[CENSUS_ECHO].seen != CENSUS_HOLDS)
@@ -744,7 +830,7 @@ static int restore(struct run *run, const struct found *found)
 
 enum census_end census_take(const struct census_chip *chip, struct census_row rows[CENSUS_RULES])
 {
-    struct run run = {chip, rows, 1, 0, 0, 0, 0, chip->now(chip->at), 0, 0, 0, 0, 0};
+    struct run run = {chip, rows, 1, 0, 0, 0, 0, chip->now(chip->at), 0, 0, 0, 0, 0, 0};
     struct found found;
     enum census_end end;
     unsigned i;

@@ -24,7 +24,7 @@ use uart_16550::ring::{
     ErrorNotes, Global, Handled, LinePort, LinePorts, Lowered, Memory, ReceiveMarks, RingError, StuckError, Uart16550Ring, UnnotedError,
 };
 use uart_16550::rs485::{BusyError, Direction, EchoError, HalfDuplex, HalfDuplexRing, NotSendingError, SendError};
-use uart_16550::shared::{CriticalSection, PortOfLine, Shared, SharedError, SharedLine, StartError, Unfinished, Wait};
+use uart_16550::shared::{CriticalSection, PortOfLine, Shared, SharedBus, SharedError, SharedLine, StartError, Unfinished, Wait};
 use uart_16550::spec::registers::{
     DLL, DLM, FCR, FifoTriggerLevel, IER, ISR, InterruptType, LCR, LSR, MCR, MSR, PSD, Parity, SPR,
     WordLength,
@@ -58,6 +58,7 @@ impl CriticalSection for Section {
 }
 
 type Port = Shared<Section, Device>;
+type Bus = SharedBus<Section, Device>;
 type Line = SharedLine<Section, Device, 4>;
 type OfLine<'a> = PortOfLine<'a, Section, Device, 4>;
 
@@ -90,6 +91,11 @@ impl Wait for Once {
 fn take_over(device: Device, patience: NonZeroU64) -> Result<EmergencyConsole<Device>, AttachError> {
     // SAFETY: the device is somewhere else, and nothing else accesses it.
     unsafe { EmergencyConsole::take_over(device, patience) }
+}
+
+fn send_queued(console: &mut EmergencyConsole<Device>, port: &Port) -> Result<(), StalledError> {
+    // SAFETY: none of this is called.
+    unsafe { console.send_queued(port) }
 }
 
 impl PortAccess for Device {
@@ -131,7 +137,6 @@ calls! {
     uart_new_mmio(base: NonZeroUsize, stride: u8) -> Result<Uart16550<MmioBackend<Device>>, InvalidAddressError> { Uart16550::new_mmio(base, stride, Device) }
     uart_new_mmio_from_address(base: NonZeroUsize, stride: u8) -> Result<Uart16550<MmioBackend<Device>>, InvalidAddressError> { Uart16550::new_mmio_from_address(base, stride, Device) }
     uart_from_state(state: &DriverState) -> Uart { Uart::from_state(Device, state) }
-    uart_state(uart: &Uart) -> DriverState { uart.state() }
     state_new() -> DriverState { DriverState::new() }
     uart_backend(uart: &Uart) -> &Device { uart.backend() }
     uart_backend_mut(uart: &mut Uart) -> &mut Device { uart.backend_mut() }
@@ -141,62 +146,13 @@ calls! {
     uart_set_fifo_size(uart: &mut Uart, size: FifoSize) { uart.set_fifo_size(size) }
     uart_spin_limit(uart: &Uart) -> NonZeroU64 { uart.spin_limit() }
     uart_set_spin_limit(uart: &mut Uart, limit: NonZeroU64) { uart.set_spin_limit(limit) }
-    uart_check_present(uart: &mut Uart) -> bool { uart.check_present() }
-    uart_init(uart: &mut Uart, config: Config) -> Result<(), InitError> { uart.init(config) }
-    uart_checked_init(uart: &mut Uart, config: Config) -> Result<(), InitError> { uart.checked_init(config) }
-    uart_set_frame(uart: &mut Uart, config: &Config) -> Result<(), InvalidDivisorError> { uart.set_frame(config) }
-    uart_checked_set_frame(uart: &mut Uart, config: &Config) -> Result<(), InvalidDivisorError> { uart.checked_set_frame(config) }
-    uart_set_frame_when_idle(uart: &mut Uart, config: &Config) -> Result<(), FrameError> { uart.set_frame_when_idle(config) }
-    uart_checked_set_frame_when_idle(uart: &mut Uart, config: &Config) -> Result<(), FrameError> { uart.checked_set_frame_when_idle(config) }
-    uart_init_with(uart: &mut Uart, config: Config, setup: &Setup) -> Result<(), InitError> { uart.init_with(config, setup) }
-    uart_checked_init_with(uart: &mut Uart, config: Config, setup: &Setup) -> Result<(), InitError> { uart.checked_init_with(config, setup) }
-    uart_set_trigger_level(uart: &mut Uart, level: FifoTriggerLevel) -> Result<(), FifosOffError> { uart.set_trigger_level(level) }
-    uart_quiesce(uart: &mut Uart, outputs: MCR, fifos: FifoAction) { uart.quiesce(outputs, fifos) }
-    uart_restore(uart: &mut Uart, dump: &ConfigRegisterDump) { uart.restore(dump) }
     size_characters(size: FifoSize) -> usize { size.characters() }
     level_characters(level: FifoTriggerLevel, size: FifoSize) -> usize { level.characters(size) }
     size_largest_up_to(characters: usize) -> Option<FifoSize> { FifoSize::largest_up_to(characters) }
     design_ware_fifo_size_of(cpr: u32) -> Option<FifoSize> { backend::fifo_size_of(cpr) }
-    uart_check_configured(uart: &mut Uart, outputs: MCR) -> Result<(), ConfigurationError> { uart.check_configured(outputs) }
-    uart_attach(uart: &mut Uart) -> Result<(DLL, DLM), AttachError> { uart.attach() }
-    uart_is_idle(uart: &mut Uart) -> bool { uart.is_idle() }
-    uart_is_gone(uart: &mut Uart) -> bool { uart.is_gone() }
-    uart_set_break(uart: &mut Uart, on: bool) { uart.set_break(on) }
-    uart_set_modem_control(uart: &mut Uart, outputs: MCR) { uart.set_modem_control(outputs) }
-    uart_set_rts(uart: &mut Uart, on: bool) { uart.set_rts(on) }
-    uart_set_dtr(uart: &mut Uart, on: bool) { uart.set_dtr(on) }
-    uart_test_loopback(uart: &mut Uart) -> Result<(), LoopbackError> { uart.test_loopback() }
-    uart_find_fifo_size(uart: &mut Uart) -> Result<FifoSize, FifoSizeError> { uart.find_fifo_size() }
-    uart_enable_64_byte_fifos(uart: &mut Uart) -> Result<bool, FifoSizeError> { uart.enable_64_byte_fifos() }
-    uart_check_connected(uart: &mut Uart) -> Result<(), RemoteReadyToReceiveError> { uart.check_connected() }
-    uart_ready_to_receive(uart: &mut Uart) -> Result<(), ByteReceiveError> { uart.ready_to_receive() }
-    uart_ready_to_send(uart: &mut Uart) -> Result<(), ByteSendError> { uart.ready_to_send() }
-    uart_try_receive_byte(uart: &mut Uart) -> Result<u8, ByteReceiveError> { uart.try_receive_byte() }
-    uart_try_send_byte(uart: &mut Uart, byte: u8) -> Result<(), ByteSendError> { uart.try_send_byte(byte) }
-    uart_try_receive_with_errors(uart: &mut Uart) -> Result<Received, ByteReceiveError> { uart.try_receive_with_errors() }
-    uart_receive_with_errors(uart: &mut Uart, slots: &mut [Received]) -> usize { uart.receive_with_errors(slots) }
-    uart_receive_bytes(uart: &mut Uart, buffer: &mut [u8]) -> usize { uart.receive_bytes(buffer) }
-    uart_send_bytes(uart: &mut Uart, buffer: &[u8]) -> usize { uart.send_bytes(buffer) }
-    uart_send_gathered(uart: &mut Uart, urgent: Option<u8>, first: &[u8], second: &[u8]) -> usize { uart.send_gathered(urgent, first, second) }
-    uart_send_burst(uart: &mut Uart, buffer: &[u8], size: FifoSize) -> usize { uart.send_burst(buffer, size) }
-    uart_receive_bytes_exact(uart: &mut Uart, buffer: &mut [u8]) -> Result<(), StalledError> { uart.receive_bytes_exact(buffer) }
-    uart_send_bytes_exact(uart: &mut Uart, bytes: &[u8]) -> Result<(), StalledError> { uart.send_bytes_exact(bytes) }
     uart_receive_bytes_while(uart: &mut Uart, buffer: &mut [u8]) -> Result<(), StalledError> { uart.receive_bytes_while(buffer, &mut || device_read(8) != 0) }
     uart_flush_while(uart: &mut Uart) -> Result<(), StalledError> { uart.flush_while(&mut || device_read(8) != 0) }
     uart_send_bytes_while(uart: &mut Uart, bytes: &[u8]) -> Result<(), StalledError> { uart.send_bytes_while(bytes, &mut || device_read(8) != 0) }
-    uart_enable_interrupts(uart: &mut Uart, interrupts: IER) { uart.enable_interrupts(interrupts) }
-    uart_disable_interrupts(uart: &mut Uart, interrupts: IER) { uart.disable_interrupts(interrupts) }
-    uart_retrigger_interrupts(uart: &mut Uart) { uart.retrigger_interrupts() }
-    uart_ier(uart: &mut Uart) -> IER { uart.ier() }
-    uart_isr(uart: &mut Uart) -> ISR { uart.isr() }
-    uart_lcr(uart: &mut Uart) -> LCR { uart.lcr() }
-    uart_mcr(uart: &mut Uart) -> MCR { uart.mcr() }
-    uart_lsr(uart: &mut Uart) -> LSR { uart.lsr() }
-    uart_msr(uart: &mut Uart) -> MSR { uart.msr() }
-    uart_peek_modem(uart: &mut Uart) -> MSR { uart.peek_modem() }
-    uart_spr(uart: &mut Uart) -> SPR { uart.spr() }
-    uart_dll_dlm(uart: &mut Uart) -> (DLL, DLM) { uart.dll_dlm() }
-    uart_config_register_dump(uart: &mut Uart) -> ConfigRegisterDump { uart.config_register_dump() }
 
     io_read(uart: &mut Uart, buffer: &mut [u8]) -> Result<usize, StalledError> { Read::read(uart, buffer) }
     io_write(uart: &mut Uart, buffer: &[u8]) -> Result<usize, StalledError> { Write::write(uart, buffer) }
@@ -274,6 +230,13 @@ calls! {
     half_duplex_ring_try_finish(bus: &mut HalfDuplexRing<Device>) -> Result<(), BusyError> { bus.try_finish() }
     half_duplex_ring_queue(bus: &mut HalfDuplexRing<Device>, bytes: &[u8]) -> Result<usize, NotSendingError> { bus.queue(bytes) }
     half_duplex_ring_handle(bus: &mut HalfDuplexRing<Device>, limit: usize) -> Handled { bus.handle(limit) }
+    half_duplex_ring_try_handle(bus: &mut HalfDuplexRing<Device>, limit: usize, rounds: u32) -> Result<Handled, StuckError> { bus.try_handle(limit, rounds) }
+    half_duplex_ring_restart(bus: &mut HalfDuplexRing<Device>, interrupts: IER) { bus.restart(interrupts) }
+    half_duplex_ring_is_idle(bus: &mut HalfDuplexRing<Device>) -> bool { bus.is_idle() }
+    half_duplex_ring_clear_transmit(bus: &mut HalfDuplexRing<Device>) -> usize { bus.clear_transmit() }
+    half_duplex_ring_clear_receive(bus: &mut HalfDuplexRing<Device>) -> usize { bus.clear_receive() }
+    half_duplex_ring_take_with_errors(bus: &mut HalfDuplexRing<ErrorNotes<Device>>, slots: &mut [Received]) -> Result<usize, UnnotedError> { bus.take_with_errors(slots) }
+    half_duplex_ring_give_up(bus: HalfDuplexRing<Device>) -> (Ring, LSR) { bus.give_up() }
     half_duplex_ring_take(bus: &mut HalfDuplexRing<Device>, slots: &mut [u8]) -> usize { bus.take(slots) }
     half_duplex_ring_take_line(bus: &mut HalfDuplexRing<Device>) -> LSR { bus.take_line() }
     half_duplex_ring_is_sending(bus: &HalfDuplexRing<Device>) -> bool { bus.is_sending() }
@@ -295,7 +258,7 @@ calls! {
     ring_memory(bytes: &'static mut [u8]) -> Memory { Memory::new(bytes) }
     ring_global(memory: &Memory) -> Global<'_> { memory.global() }
     ring_into_inner(ring: Ring) -> Uart { ring.into_inner() }
-    // panics makes a line of each other call of the rings here.
+    // panics makes a line of each other call of the driver and the rings here.
     ring_take_with_errors(ring: &mut NotingRing, slots: &mut [Received]) -> Result<usize, UnnotedError> { ring.take_with_errors(slots) }
     ring_copy_with_notes(ring: &Ring, notes: &ErrorNotes<Device>, slots: &mut [Received]) -> Result<usize, UnnotedError> { ring.copy_with_notes(notes, slots) }
     error_notes_new(memory: Global<'_>, backend: Device, capacity: usize) -> Result<ErrorNotes<Device>, (Device, RingError)> { ErrorNotes::new(memory, backend, capacity) }
@@ -324,7 +287,11 @@ calls! {
 
     shared_start(port: &Port, memory: Global<'_>, uart: Uart) -> Result<(), (Uart, StartError)> { port.start(memory, uart, 64, 64) }
     shared_stop(port: &Port) -> Result<Ring, SharedError> { port.stop() }
-    shared_handle(port: &Port, limit: usize) -> Result<Handled, SharedError> { port.handle(limit) }
+    shared_try_handle(port: &Port, limit: usize, rounds: u32) -> Result<Handled, SharedError> { port.try_handle(limit, rounds) }
+    shared_start_with(port: &Port, rings: Ring) -> Result<(), (Ring, StartError)> { port.start_with(rings) }
+    shared_bus_try_handle(bus: &Bus, limit: usize, rounds: u32) -> Result<Handled, SharedError> { bus.try_handle(limit, rounds) }
+    shared_bus_with(bus: &Bus) -> Result<usize, SharedError> { bus.with(|bus| bus.inner().transmit_len()) }
+    shared_bus_poll_write(bus: &Bus, context: &mut Context<'_>, bytes: &[u8]) -> Poll<Result<usize, SharedError>> { bus.poll_write(context, bytes) }
     shared_with(port: &Port) -> Result<usize, SharedError> { port.with(|ring| ring.transmit_len()) }
     shared_poll_read(port: &Port, context: &mut Context<'_>, slots: &mut [u8]) -> Poll<Result<usize, SharedError>> { port.poll_read(context, slots) }
     shared_poll_write(port: &Port, context: &mut Context<'_>, bytes: &[u8]) -> Poll<Result<usize, SharedError>> { port.poll_write(context, bytes) }
@@ -340,6 +307,7 @@ calls! {
     emergency_send_bytes(console: &mut EmergencyConsole<Device>, bytes: &[u8]) -> Result<(), StalledError> { console.send_bytes(bytes) }
     emergency_write_raw_text(console: &mut EmergencyConsole<Device>, text: &[u8]) -> Result<(), StalledError> { console.write_raw_text(text) }
     emergency_write_str(console: &mut EmergencyConsole<Device>, text: &str) -> fmt::Result { console.write_str(text) }
+    emergency_send_queued(console: &mut EmergencyConsole<Device>, port: &Port) -> Result<(), StalledError> { send_queued(console, port) }
     emergency_flush(console: &mut EmergencyConsole<Device>) -> Result<(), StalledError> { console.flush() }
     emergency_into_inner(console: EmergencyConsole<Device>) -> Uart { console.into_inner() }
 

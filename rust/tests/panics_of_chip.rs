@@ -88,6 +88,7 @@ calls! {
     chip_is_loopback(chip: &LiveChip) -> bool { chip.is_loopback() }
     chip_is_dlab_set(chip: &LiveChip) -> bool { chip.is_dlab_set() }
     chip_has_fifo_on(chip: &LiveChip) -> bool { chip.has_fifo_on() }
+    chip_outputs(chip: &LiveChip) -> MCR { chip.outputs() }
     chip_is_breaking(chip: &LiveChip) -> bool { chip.is_breaking() }
     chip_expire_timeout(chip: &mut LiveChip) { chip.expire_timeout() }
     chip_settle(chip: &mut LiveChip) -> usize { uart_16550_chip::settle(chip) }

@@ -190,7 +190,7 @@ type Ring = Uart16550Ring<Looped>;
 /// Rings whose driver is set up.
 fn ring(global: Global<'_>) -> Ring {
     let uart = Uart16550::new_with_backend(Looped::new());
-    let made = Ring::new(global, uart, CAPACITY, CAPACITY).map_err(|(_uart, error)| error);
+    let made = Ring::new(global, uart, CAPACITY, CAPACITY);
     let mut ring = made.expect("there is memory");
     set_up(&mut ring);
     ring
@@ -316,7 +316,6 @@ fn test_refusals() {
     let uart = Uart16550::new_with_backend(Looped::new());
     let started = RINGS.start(memory(1).global(), uart, CAPACITY, CAPACITY);
     started
-        .map_err(|(_uart, error)| error)
         .expect("there is memory");
     enter(&mut set_up);
     let handler = thread::spawn(|| {

@@ -504,7 +504,8 @@ The most clocks that a handler may be late, so that no character is dropped with
 read of ISR, at the trigger level of the configuration. An access takes at most access_clocks, which u16550_clocks_covering has of
 nanoseconds. At a line that several ports share, those before this one are served first, for at most before_clocks; at a line of its own
 this is 0. With 0 for both it is the time until the first read of DATA. Returns U16550_TIME_NOTHING_LEFT if nothing is left, also if the
-two accesses of a byte take longer than a character.""", [
+two accesses of a byte take longer than a character. The other end must be no faster than the configuration, also by its stop bits. If an
+access takes a quarter of a character or more, a visit may end by its limit, and characters are lost in spite of the result.""", [
             Call("handler_budget", "const struct u16550_config *config, uint16_t fifo_size, uint64_t access_clocks, uint64_t before_clocks, "
                  "uint64_t *clocks", gives="clocks", none="TIME_NOTHING_LEFT", **BY_DIVISOR),
         ]),
@@ -546,7 +547,10 @@ not fit into 64 bits.""", [
         Group("Whether a chip is there: its scratch register keeps two patterns.", [
             Call("check_present", "struct u16550 *uart, uint8_t *present", gives="present"),
         ]),
-        Group("Sets the device up. Returns an enum u16550_init_error if it cannot be.", [
+        Group("""
+Sets the device up. Returns an enum u16550_init_error if it cannot be. A character in the shift register is not waited for before
+divisor and frame change: the other end may receive it broken, and one that is arriving may be received broken here. On a line
+that is in use call u16550_init_with and U16550_WAIT_FIRST.""", [
             Call("init", "struct u16550 *uart, const struct u16550_config *config", error="InitError"),
         ]),
         Group("""
@@ -603,12 +607,14 @@ U16550_FIFOS_OFF, without an access, if the FIFOs are off.""", [
         ]),
         Group("""
 Leaves the port so that the chip interrupts nobody: writes 0 to IER, then the outputs to MCR without loopback, and does with
-the FIFOs what an enum u16550_fifo_action says. Does not wait.""", [
+the FIFOs what an enum u16550_fifo_action says. Does not wait, and reads no received byte: on a chip that shows DATA_READY behind
+a reset of its FIFOs, or after they were turned off, the next receive may return one that never arrived. u16550_init discards it.""", [
             Call("quiesce", "struct u16550 *uart, uint8_t outputs, uint8_t fifos"),
         ]),
         Group("""
 Writes what a dump shows back to the chip, for example after it was without power: divisor and frame without DLAB, FCR, MCR
-without loopback, SPR, and IER in the end. Both FIFOs are emptied; if they were on, they get the configured trigger level.""", [
+without loopback, SPR, and IER in the end. Both FIFOs are emptied; if they were on, they get the configured trigger level. It reads
+no received byte, so on a chip as with u16550_quiesce receive what waits, and discard it.""", [
             Call("restore", "struct u16550 *uart, const struct u16550_dump *dump"),
         ]),
         Group("""

@@ -106,8 +106,8 @@ def makers() -> str:
 
 
 def version(number: str) -> str:
-    """The version as a text, and as a number that grows."""
-    major, minor, patch = map(int, number.split("."))
+    """The version as a text, and as a number that grows: that of the release on the way to which it is."""
+    major, minor, patch = map(int, number.removesuffix("-dev").split("."))
     return (
         f'/* The version of this header. u16550_version returns that of the library. */\n#define U16550_VERSION "{number}"\n'
         f"#define U16550_VERSION_NUMBER {major * 10000 + minor * 100 + patch}\n"

@@ -540,7 +540,7 @@ class Library:
     def errors_of(self, of: Type) -> list[str]:
         """The numbers of the errors in a result."""
         error = error_in(self.types.kind(of)) if of != "Unit" else None
-        if error and self.types.plain_name(error).startswith("uart_pair_of_"):
+        if error and self.types.gives_back(error):
             # What was given is given back with the error.
             error = self.types.fields(error)[1][1]
         if not error:

@@ -1,4 +1,4 @@
-"""The pair uart_port: the chip and the port for monitors, with the functions of the header of the library for C that the kit builds."""
+"""The pair uart_port: the chip and the port for monitors, with the functions that the headers in crates/uart_c declare."""
 from __future__ import annotations
 
 import collections
@@ -65,13 +65,12 @@ GUARD = "UART_PORT_H"
 INTRODUCTION = f"""{LICENCE}/*
  * uart_port.h - a 16550A or 16450 serial chip in software, and a serial port for virtual machine monitors over it.
  *
- * Made by tools/c/emit from the code that is proved, and from the headers of the library that the kit builds. Do not edit.
+ * Made by tools/c/emit from the code that is proved, and from the headers in crates/uart_c. Do not edit.
  *
  * This is uart_port.c and uart_port.h alone: C99 that needs stddef.h and stdint.h, and in uart_port.c stdbool.h, and nothing else. It
  * allocates nothing, has no variables, calls no function of yours, and nothing calls itself. All state is in structs of the caller, and
  * two threads may call it at once as long as no struct is in both calls. Whatever bytes a struct holds, each function is defined and
- * stays within it. The structs are those of the library that the kit builds, so a program changes to these files by what it is linked
- * with.
+ * stays within it.
  *
  * A pointer that is null is refused, also one to an array of length 0: the call does nothing, and returns the status that says so, or 0 if
  * it returns none. Any other pointer must be valid and aligned. Pointers that a function writes through must not overlap with its others.
@@ -98,7 +97,7 @@ TOP = f"""{LICENCE}/*
 
 def exported(folder: pathlib.Path | None) -> tuple[Program, dict[str, str]]:
     """The program, and the functions of the header by their names there."""
-    program, header = program_of(OWN, folder, f"./prove --library {EXPORTS}"), Header.read()
+    program, header = program_of(OWN, folder, f"./prove {EXPORTS}"), Header.read()
     exports = {f.split("::")[-1]: f for f in program.functions if f.startswith(f"{EXPORTS}::") and f.split("::")[-1] in header.prototypes}
     missing = sorted(set(header.prototypes) - set(exports))
     if missing:
@@ -250,7 +249,7 @@ def padded(text: str) -> str:
 
 
 class Header:
-    """The header of the pair, of that of the library and of that which writes and reads a chip as bytes."""
+    """The header of the pair, of that of chip and port and of that which writes and reads a chip as bytes."""
 
     @classmethod
     def read(cls) -> Header:
@@ -258,7 +257,7 @@ class Header:
 
     def __init__(self, library: str, state: str) -> None:
         start = library.index("/* What most functions return.")
-        end = library.index("/* ---------------------------------------------------------------- the driver")
+        end = library.rindex("#ifdef __cplusplus")
         self.text, self.state = padded(library[start:end].rstrip() + "\n"), state
         # The functions of the header, with the names of their parameters.
         self.prototypes = {

@@ -196,6 +196,10 @@ class Representation:
             raise Unknown(f"the error {name}, which has no number")
         return self.failures[name]
 
+    def gives_back(self, of: Type) -> bool:
+        """Whether an error has what was given beside its cause: a pair, or what a constructor refused."""
+        return self.plain_name(of).startswith("uart_pair_of_") or of[1].split("::")[-1] == "Refused"
+
     def is_silent(self, of: Type) -> bool:
         """Whether nobody reads the parts of an error of one kind."""
         return of[1].split("::")[-1] in self.silent

@@ -135,8 +135,7 @@ def form_of(types: Representation, of: Type, function: str, is_size: bool) -> Fo
     if kind.kind == "option":
         return Form(whole, c.BOOL, ("is_some",), tuple(value), ok) if value else None
     if kind.kind == "either":
-        if types.plain_name(kind.error).startswith("uart_pair_of_"):
-            # What was given is given back with the error.
+        if types.gives_back(kind.error):
             (first, given), (second, error) = types.fields(kind.error)
             back = (*value, *out(("error", first), given, name_of(types, given, "")))
             if types.is_unit(error):

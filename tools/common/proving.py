@@ -34,18 +34,13 @@ class Crate:
     """A line of crates.txt, whose libraries have lines above it."""
 
     def __init__(self, line: str, crates: dict[str, Crate]) -> None:
-        names, _, uses = line.partition(":")
-        self.line, (self.name, *kind) = line, names.split()
-        self.is_static = "staticlib" in kind
+        self.name, _, uses = line.partition(":")
+        self.line = line
         self.folder = os.path.join(ROOT, "crates", self.name)
         self.is_program = os.path.exists(os.path.join(self.folder, "src", "main.rt"))
         self.uses: list[Crate] = [crates[used] for used in uses.split() if used in crates]
         self.of_kit = ["std", *(used for used in uses.split() if used not in crates)]
         self.below: list[Crate] = list(dict.fromkeys(one for used in self.uses for one in (*used.below, used)))
-
-    def as_library(self) -> None:
-        """Makes a library for C one for other crates. Its sum is another then."""
-        self.is_static, self.line = False, self.line.replace(" staticlib", "")
 
     def files(self) -> dict[str, bytes]:
         """Returns the contents of the crate's files but its tests, by their paths."""
@@ -67,7 +62,7 @@ class Crate:
 
     def made(self) -> str:
         """Returns the file or folder that is made of the crate."""
-        parts = [f"lib{self.name}.a"] if self.is_static else [self.name] if self.is_program else ["rlib", f"{self.name}.rlib"]
+        parts = [self.name] if self.is_program else ["rlib", f"{self.name}.rlib"]
         return os.path.join(self.folder, "out", *parts)
 
 
@@ -80,8 +75,7 @@ def reading(crate: Crate, jobs: int, made: Callable[[Crate], str] = Crate.made) 
     words += [word for name, rlib in rlibs.items() for word in ("--extern", f"{name}={rlib}")]
     folders = dict.fromkeys([f"{KIT}/rlibs", *(os.path.dirname(made(one)) for one in crate.below)])
     words += [word for folder in folders for word in ("-L", f"dependency={folder}")]
-    # The kit's default has instructions that not every 64-bit x86 processor has.
-    return words + (["--crate-type", "staticlib", "--cpu", "x86-64"] if crate.is_static else [])
+    return words
 
 
 def commands(crate: Crate, jobs: int) -> list[list[str]]:
@@ -90,8 +84,6 @@ def commands(crate: Crate, jobs: int) -> list[list[str]]:
     if crate.is_program:
         link = [f"{KIT}/bin/rattle-link", "--target", "x86_64-unknown-linux-gnu", *tools, "-o", crate.made(), f"{crate.made()}.o"]
         return [[*words, *tools, "-o", f"{crate.made()}.o"], [*link, f"{KIT}/c/libos_c.a", f"{KIT}/c/liblibc_c.a"]]
-    if crate.is_static:
-        return [[*words, *tools, "-o", crate.made()]]
     return [[*words, "--statements", "-o", crate.made()]]
 
 
@@ -140,7 +132,7 @@ def take(crate: Crate, found: str) -> bool:
         shutil.rmtree(crate.made(), ignore_errors=True)
         os.makedirs(os.path.dirname(crate.made()), exist_ok=True)
         copy_of(os.path.join(at, "made"), crate.made())
-        # It is newer than its sources: what asks by time whether it is to be made again, as integration/library, leaves it.
+        # It is newer than its sources, for what asks by time whether it is to be made again.
         os.utime(crate.made())
         os.utime(at)
         if sums_of(crate.made()) != told["files"]:
@@ -205,7 +197,7 @@ def prove(crate: Crate, jobs: int, niceness: int, is_anew: bool) -> int:
             print(f"{crate.name}: kept, proved of the same files on this machine", flush=True)
             return 0
     start = time.monotonic()
-    if not (crate.is_program or crate.is_static):
+    if not crate.is_program:
         # With it goes the stamp by which `rt` takes a library for its own.
         shutil.rmtree(os.path.dirname(crate.made()), ignore_errors=True)
     os.makedirs(os.path.dirname(crate.made()), exist_ok=True)

@@ -9,6 +9,7 @@ import sys
 
 sys.path.append(str(pathlib.Path(__file__).resolve().parent / "mir"))
 
+import packages  # noqa: E402
 import planted  # noqa: E402
 
 OF_ERASER, OF_CHECK, OF_READER = "the eraser, which refuses the source", "`erase check`", "the second reader"
@@ -246,7 +247,7 @@ AROUND = [
         "one more dependency of the users' package",
         "rust/uart_16550/Cargo.toml",
         "[dependencies]\n",
-        '[dependencies]\nx = { path = "../x", version = "=0.9.0" }\n',
+        f'[dependencies]\nx = {{ path = "../x", version = "={packages.VERSION}" }}\n',
         "the dependency x is another package",
     ),
     (

@@ -53,6 +53,8 @@ PATHS = {
     "vec": ["Vec"],
     "boxed": ["Box"],
     "embedded_io": "Error ErrorKind ErrorType Read ReadReady Write WriteReady".split(),
+    # What a constructor refuses becomes an error of the crate.
+    "uart_ring": ["Refused", "RingError"],
     "u8": ["MAX"],
     **{name: ["new"] for name in ("Cell", "VecDeque", "String")},
     "Vec": "from new with_capacity".split(),
@@ -130,10 +132,11 @@ TRAITS: dict[str, list[str]] = {
     "ToVecWith": ["to_vec_with"],
     "ToStringWith": ["to_string_with"],
 }
-# The traits that a type of an emitted crate has by hand: none of them is dropped, followed to another type, or compared with one.
+# The traits that a type of an emitted crate has by hand: none of them is dropped, followed to another type, or compared with one. `From` is
+# that of an error of what a constructor refused: no emitted code makes that by `?`, so no other is taken.
 IMPLEMENTED = """
 Backend BitAnd BitAndAssign BitOr BitOrAssign BitXor BitXorAssign Clone Copy Eq Error Extend FromIterator IntoIterator Not PartialEq Sub
-SubAssign Binary Debug LowerHex Octal UpperHex ErrorType Read Write ReadReady WriteReady BufRead Patience
+SubAssign Binary Debug Display From LowerHex Octal UpperHex ErrorType Read Write ReadReady WriteReady BufRead Patience
 """.split()
 # Methods of the traits of `core` that code calls by name or by a sign. Rust takes a function of the type before them.
 OF_CORE = """

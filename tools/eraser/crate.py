@@ -24,10 +24,11 @@ import words
 from items import Dropped, Edit, File, Tables
 from tokens import Refused, check_letters, tokens
 
-LIST_TEXT = """# What the eraser dropped: rule, item, what. Made by `tools/eraser/erase emit`.
-# Read each change of it in a review.
+LIST_TEXT = """# What the eraser dropped: rule, item, what.
 """
-MANIFEST_TEXT = """# Made by `tools/eraser/erase emit`: the kit, and the SHA-256 of each source and of each file that was made of it.
+# What `rt version` says behind the name of the kit.
+LOGIC = re.compile(r"\blogic [0-9a-f]{16}\b")
+MANIFEST_TEXT = """# Made by `tools/eraser/erase emit`: the sum of the kit's logic, the SHA-256 of each source and of each file that was made of it.
 """
 
 
@@ -62,9 +63,14 @@ def sources(root: pathlib.Path, crates: list[str]) -> dict[str, bytes]:
 
 
 def kit() -> str:
+    """The sum of the kit's logic. Two kits whose sums are the same prove the same: their names may differ."""
     if shutil.which("rt") is None:
         raise Failed("rt: not there")
-    return subprocess.run(["rt", "version"], check=True, capture_output=True, text=True).stdout.strip()
+    told = subprocess.run(["rt", "version"], check=True, capture_output=True, text=True).stdout
+    logic = LOGIC.search(told)
+    if logic is None:
+        raise Failed(f"rt version: no sum of the logic in '{told.strip()}'")
+    return logic[0]
 
 
 def kept_folder() -> pathlib.Path:
@@ -227,6 +233,13 @@ def emitted(
     root: pathlib.Path, allow: Tables = table, expand: Callable[[pathlib.Path, str], bytes] = expanded, kit_of: Callable[[], str] = kit
 ) -> dict[str, bytes]:
     """All files of the emitted folder by name, with their bytes."""
+    return made(root, allow, expand, kit_of)[0]
+
+
+def made(
+    root: pathlib.Path, allow: Tables = table, expand: Callable[[pathlib.Path, str], bytes] = expanded, kit_of: Callable[[], str] = kit
+) -> tuple[dict[str, bytes], str]:
+    """All files of the emitted folder by name, with their bytes, and the list of what was dropped."""
     found = {name: data for name, data in sources(root, allow.CRATES).items() if is_read(name)}
     to_expand = [name for name in found if b"use thiserror::Error" in found[name]]
     with concurrent.futures.ThreadPoolExecutor(4) as pool:
@@ -239,9 +252,9 @@ def emitted(
         told = promises.Promises(root, allow.SHIPS)
         files, dropped = files_of(texts, crates, told, allow)
         listed = manifest(version.result(), {**found, **told.definitions.files}, files, allow)
-    files["DROPPED"] = dropped
-    files["MANIFEST"] = listed + f"{hashlib.sha256(dropped.encode()).hexdigest()}  {allow.OUTPUT}/DROPPED\n"
-    return {name: text.encode("utf-8") for name, text in files.items()}
+    # Nobody reads 2,600 lines in a review. Its sum shows that the list changed, and `tools/eraser/erase dropped` prints it.
+    files["MANIFEST"] = listed + f"{hashlib.sha256(dropped.encode()).hexdigest()}  dropped\n"
+    return {name: text.encode("utf-8") for name, text in files.items()}, dropped
 
 
 def pages(told: promises.Promises, crates: packages.Crates, allow: Tables) -> dict[str, str]:
@@ -357,8 +370,8 @@ def check_traits(files: list[File], allow: Tables) -> None:
             raise Failed(f"{function.path}: {cause}")
 
 
-def manifest(version: str, found: dict[str, bytes], files: dict[str, str], allow: Tables) -> str:
-    lines = [f"kit {version}\n"]
+def manifest(logic: str, found: dict[str, bytes], files: dict[str, str], allow: Tables) -> str:
+    lines = [f"kit {logic}\n"]
     for name, data in sorted(found.items()):
         lines.append(f"{hashlib.sha256(data).hexdigest()}  crates/{name}\n")
     for name, text in sorted(files.items()):

@@ -59,7 +59,7 @@ def example(file: File, comments: list[Token], path: str | None) -> list[Edit]:
                 found.append(Edit("documentation", comment.start, comment.end, f"{fence[1]} ```text"))
             inside = not inside
         elif fence:
-            around = file.table.EXAMPLES.get(path) or examples.of_rings(path, "\n".join(shown))
+            around = file.table.EXAMPLES.get(path) or examples.of_rings(path, "\n".join(shown)) or examples.of_driver(path)
             if fence[2] or around is None:
                 raise Refused(f"an example that is not listed: {path}", comment.start)
             before, behind = around

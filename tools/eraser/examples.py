@@ -127,6 +127,11 @@ def of_rings(path: str | None, text: str) -> Example | None:
     return compiles(RING + ", mut slots: [u8; 2]" * bool(re.search(r"\bslots\b", text)), items=["use facade::ring;", *items])
 
 
+def of_driver(path: str | None) -> Example | None:
+    """An example of a call of the driver that has no entry: the body of a function that has the driver."""
+    return compiles(UART) if re.fullmatch(r"uart_16550::driver::(?:\w+::)?Uart16550::\w+", path or "") else None
+
+
 BUS = "bus: &mut HalfDuplex<Device>"
 RING_BUS = "bus: &mut HalfDuplexRing<Device>"
 
@@ -154,31 +159,7 @@ EXAMPLES = {
             "}",
         ],
     ),
-    "uart_16550::driver::frame::Uart16550::set_frame": compiles(UART),
-    "uart_16550::driver::frame::Uart16550::is_idle": compiles(UART),
-    "uart_16550::driver::frame::Uart16550::set_break": compiles(UART),
-    "uart_16550::driver::frame::Uart16550::set_modem_control": compiles(UART),
-    "uart_16550::driver::frame::Uart16550::set_rts": compiles(UART),
-    "uart_16550::driver::frame::Uart16550::set_dtr": compiles(UART),
-    "uart_16550::driver::frame::Uart16550::attach": compiles(UART),
-    "uart_16550::driver::configured::Uart16550::check_configured": compiles(UART),
-    "uart_16550::driver::setup::Uart16550::set_trigger_level": compiles(UART),
-    "uart_16550::driver::setup::Uart16550::set_frame_when_idle": compiles(UART),
-    "uart_16550::driver::setup::Uart16550::init_with": compiles(UART),
-    "uart_16550::driver::setup::Uart16550::quiesce": compiles(UART),
-    "uart_16550::driver::setup::Uart16550::restore": compiles(UART),
-    **{
-        f"uart_16550::driver::checked::Uart16550::checked_{name}": compiles(UART)
-        for name in ("init", "init_with", "set_frame", "set_frame_when_idle")
-    },
-    "uart_16550::driver::init::Uart16550::check_present": compiles(UART),
-    "uart_16550::driver::init::Uart16550::init": compiles(UART),
-    "uart_16550::driver::loopback::Uart16550::test_loopback": compiles(UART),
-    "uart_16550::driver::sizing::Uart16550::find_fifo_size": compiles(UART),
-    "uart_16550::driver::enabling::Uart16550::enable_64_byte_fifos": compiles(UART),
-    "uart_16550::driver::receive::Uart16550::ready_to_receive": compiles(UART),
     "uart_16550::driver::receive::Uart16550::try_receive_byte": compiles(UART, "Option<u8>", True),
-    "uart_16550::driver::receive::Uart16550::receive_bytes": compiles(UART),
     "uart_16550::driver::receive::Uart16550::try_receive_with_errors": compiles(UART, "Option<Received>", True),
     "uart_16550::driver::receive::Uart16550::receive_with_errors": compiles(UART + ", mut slots: [Received; 4]"),
     "uart_16550::driver::receive::Uart16550::receive_bytes_exact": (
@@ -189,24 +170,13 @@ EXAMPLES = {
         "state: &DriverState, accesses: Device", items=["struct Tape;", "impl Tape { fn new(device: Device) -> Device { device } }"]
     ),
     "uart_16550::driver::state::Uart16550::state": compiles("uart: &Uart16550Tty<Device>"),
-    "uart_16550::driver::status::Uart16550::ier": compiles(UART),
-    "uart_16550::driver::status::Uart16550::is_gone": compiles(UART),
     "uart_16550::driver::status::Uart16550::isr": (
         INCLUDE + ["# struct Port { uart: Uart16550<Device> }", "# impl Port {", "# fn example(&mut self) -> Option<InterruptType> {"],
         ["# } }"],
     ),
-    "uart_16550::driver::status::Uart16550::check_connected": compiles(UART),
-    "uart_16550::driver::status::Uart16550::enable_interrupts": compiles(UART),
-    "uart_16550::driver::status::Uart16550::disable_interrupts": compiles(UART),
-    "uart_16550::driver::status::Uart16550::peek_modem": compiles(UART),
-    "uart_16550::driver::status::Uart16550::retrigger_interrupts": compiles(UART),
-    "uart_16550::driver::status::Uart16550::dll_dlm": compiles(UART),
-    "uart_16550::driver::status::Uart16550::config_register_dump": compiles(UART),
-    "uart_16550::driver::transmit::Uart16550::ready_to_send": compiles(UART),
     "uart_16550::driver::transmit::Uart16550::send_bytes": compiles(UART + ", bytes: &[u8]"),
     "uart_16550::driver::burst::Uart16550::send_burst": compiles(UART + ", bytes: &[u8]"),
     "uart_16550::driver::burst::Uart16550::send_gathered": compiles(UART + ", queue: &mut std::collections::VecDeque<u8>"),
-    "uart_16550::driver::transmit::Uart16550::try_send_byte": compiles(UART),
     "uart_16550::driver::transmit::Uart16550::send_bytes_exact": (
         INCLUDE + ["# enum PortError { NotSent { sent: usize } }", f"# fn example({UART}, question: &[u8]) -> Result<(), PortError> {{"],
         ["# Ok(()) }"],
@@ -227,14 +197,8 @@ EXAMPLES = {
             "}",
         ],
     ),
-    "uart_16550::driver::Uart16550::backend": compiles(UART),
-    "uart_16550::driver::Uart16550::backend_mut": compiles(UART),
-    "uart_16550::driver::Uart16550::config": compiles(UART),
-    "uart_16550::driver::Uart16550::fifo_enabled": compiles(UART),
-    "uart_16550::driver::Uart16550::fifo_size": compiles(UART),
     "uart_16550::driver::Uart16550::set_fifo_size": compiles(UART + ", bytes: &[u8]"),
     "uart_16550::driver::Uart16550::spin_limit": compiles(UART, "bool", True),
-    "uart_16550::driver::Uart16550::set_spin_limit": compiles(UART),
     "uart_spec::dump::ConfigRegisterDump::divisor": compiles("shown: &ConfigRegisterDump"),
     "uart_spec::dump::ConfigRegisterDump::baud_rate": runs("use facade::native::*;"),
     "uart_spec::checked::checked_frequency": runs("use facade::native::spec::*;"),
@@ -329,6 +293,13 @@ EXAMPLES = {
     "uart_rs485::rings::HalfDuplexRing::queue": at_bus(f"{RING_BUS}, bytes: &[u8]"),
     "uart_rs485::rings::HalfDuplexRing::handle": at_bus(RING_BUS),
     "uart_rs485::rings::HalfDuplexRing::take": at_bus(f"{RING_BUS}, mut slots: [u8; 2]"),
+    "uart_rs485::rings::HalfDuplexRing::try_handle": at_bus(RING_BUS),
+    "uart_rs485::rings::HalfDuplexRing::restart": at_bus(RING_BUS),
+    "uart_rs485::rings::HalfDuplexRing::is_idle": at_bus(RING_BUS),
+    "uart_rs485::rings::HalfDuplexRing::clear_transmit": at_bus(RING_BUS),
+    "uart_rs485::rings::HalfDuplexRing::clear_receive": at_bus(RING_BUS),
+    "uart_rs485::rings::HalfDuplexRing::take_with_errors": at_bus("bus: &mut HalfDuplexRing<ring::ErrorNotes<Device>>, mut slots: [Received; 2]"),
+    "uart_rs485::rings::HalfDuplexRing::give_up": at_bus("bus: HalfDuplexRing<Device>"),
     "uart_rs485::rings::HalfDuplexRing::take_line": at_bus(RING_BUS),
     "uart_rs485::rings::HalfDuplexRing::is_sending": at_bus(RING_BUS),
     "uart_rs485::rings::HalfDuplexRing::inner": at_bus(RING_BUS),
@@ -359,15 +330,12 @@ EXAMPLES = {
         ["# }"],
     ),
     "uart_ring::ring::Uart16550Ring": (
-        INCLUDE
-        + ["# use facade::ring::*;", "# enum StartError { NoRings(RingError) }"]
-        + ["# fn example(alloc: Global, uart: Uart16550<Device>) -> Result<(), StartError> {"],
+        INCLUDE + ["# use facade::ring::*;"] + ["# fn example(alloc: Global, uart: Uart16550<Device>) -> Result<(), RingError> {"],
         ["# Ok(()) }"],
     ),
+    "uart_ring::refused::Refused": compiles("alloc: ring::Global, uart: Uart16550<Device>", items=["use facade::ring::{self, Uart16550Ring};"]),
     "uart_ring::notes::ErrorNotes": (
-        INCLUDE
-        + ["# use facade::ring::*;", "# enum StartError { NoRings(RingError) }"]
-        + ["# fn example(alloc: Global, backend: Device) -> Result<(), StartError> {"],
+        INCLUDE + ["# use facade::ring::*;"] + ["# fn example(alloc: Global, backend: Device) -> Result<(), RingError> {"],
         ["# Ok(()) }"],
     ),
     "uart_ring::notes::ErrorNotes::backend": (
@@ -489,6 +457,7 @@ EXAMPLES |= {
         ["# }"],
     ),
     "uart_live::live::LiveChipWith::wire": compiles(f"{CHIP}, sink: &mut [u8]"),
+    "uart_live::live::LiveChipWith::outputs": compiles("chip: &LiveChip", items=["use facade::registers::MCR;"]),
     "uart_live::live::LiveChipWith::take_wire": compiles(f"{CHIP}, sent: usize"),
     "uart_live::live::LiveChipWith::receive_room": compiles(f"{CHIP}, byte: u8"),
     "uart_virtual::port::VirtualPortWith": in_monitor(f"{PORT_OF_GUEST}, {HOST}, offset: u8, value: u8"),

@@ -5,7 +5,7 @@ import examples
 import table
 from items import match
 
-VERSION = "0.9.0"
+VERSION = "0.11.0-dev"
 # Where the repository is, and its pages: the one place to set it, beside the manifests by hand, which `erase check` compares with it. Nobody
 # can have this address, and `rust/for_release.py` makes no release with it.
 REPOSITORY = HOMEPAGE = "https://geesetrunk.invalid"

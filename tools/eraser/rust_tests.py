@@ -11,10 +11,8 @@ import tokens
 
 OUTPUT = "rust/proved_tests/src/erased"
 
-# The crates with tests. Of `uart_uses` only these are compiled: the others are of callers, which are proved.
-CRATES = ["uart_calls", "uart_uses"]
-OF_USES = ["rings"]
-USES = "//! The interrupt handler of the documentation, and its tests.\n\n" + "".join(f"mod {name};\n" for name in OF_USES)
+# The crates with tests.
+CRATES = ["uart_calls"]
 
 # Heads of paths. Who names an allocator makes rings, which have a kit of their own.
 KIT = "geesetrunk_kit"
@@ -79,10 +77,9 @@ def emitted(root: pathlib.Path) -> dict[str, bytes]:
     files = {}
     for name, data in crate.sources(root, CRATES).items():
         of, _, file = name.partition("/src/tests")
-        if not file or of == "uart_uses" and not re.match(rf"/({'|'.join(OF_USES)})\b", file):
+        if not file:
             continue
         files[f"{of}/mod.rs" if file == ".rt" else f"{of}{file[: -len('.rt')]}.rs"] = erased(name, crate.text_of(name, data))
-    files["uart_uses/mod.rs"] = USES
     head = "//! Made by `tools/eraser/erase emit` from the tests in `crates/`. Do not edit.\n#![allow(warnings)]\n\n"
     files["mod.rs"] = head + "".join(f"mod {of};\n" for of in CRATES)
     return {name: text.encode("utf-8") for name, text in files.items()}

@@ -21,8 +21,8 @@ CONTRACTS = ("requires", "ensures", "ghost")
 # Methods that get another name where their one argument is an allocator.
 WITH_ALLOCATOR = ("collect", "to_vec", "to_string")
 # The files whose errors of a cause have `Error` by hand in Rust, and these errors.
-ERRORS = ("uart_spec/src/errors.rt", "uart_original/src/errors.rt")
-OF_A_CAUSE = "InitError|FrameError|LoopbackError|Uart16550TtyError"
+ERRORS = tuple(f"uart_{name}/src/errors.rt" for name in ("spec", "original", "rs485", "waits", "discovery"))
+OF_A_CAUSE = "InitError|FrameError|LoopbackError|Uart16550TtyError|SendError|SharedError|StartError|Unfinished|TreeError"
 EMPTY_ERROR = rf"(?:# \[ automatically_derived \] )?impl (?:< > )?std :: error :: Error for (?:{OF_A_CAUSE}) (?:< > where )?\{{ \}}"
 # What a page of definitions is.
 MODULE = r'(# \[ doc \( alias \( ("\w+"( , )?)+ \) \) \] )?pub mod \w+ \{ \}'

@@ -249,7 +249,7 @@ BYTES = [
     ("uart_spec/examples.rs", "(port % 8)", "(port % 9)"),
     ("uart_live/Cargo.toml", 'edition = "2024"', 'edition = "2021"'),
     ("uart_live/Cargo.toml", "../../kit", "../../other"),
-    ("DROPPED", "clause | uart_16550::driver::init::Uart16550::init | requires, ensures\n", ""),
+    ("MANIFEST", "  dropped\n", "  dropped by hand\n"),
     ("MANIFEST", "kit ", "kit of another day "),
 ]
 
@@ -289,7 +289,7 @@ AROUND = [
     ("rust/uart_16550/Cargo.toml", "[dependencies]\n", '[dependencies]\nbitflags = "2"\n', "the dependency bitflags"),
     (
         "rust/uart_16550/Cargo.toml",
-        '"../proved/uart_ring", version = "=0.9.0"',
+        f'"../proved/uart_ring", version = "={packages.VERSION}"',
         '"../proved/uart_ring"',
         "the dependency uart_ring is of any version",
     ),
@@ -324,7 +324,7 @@ AROUND = [
     (
         "rust/kit/Cargo.toml",
         "[features]\n",
-        '[dependencies]\nx = { path = "../x", version = "=0.9.0" }\n[features]\n',
+        f'[dependencies]\nx = {{ path = "../x", version = "={packages.VERSION}" }}\n[features]\n',
         "the dependency x is another package",
     ),
 ]

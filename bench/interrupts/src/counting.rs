@@ -62,7 +62,7 @@ fn rings(chip: FifoSize, told: FifoSize, schedule: Vec<Event>, interrupts: IER) 
         CAPACITY,
     ) {
         Ok(ring) => ring,
-        Err((_, cause)) => panic!("{cause}"),
+        Err(refused) => panic!("{refused}"),
     }
 }
 

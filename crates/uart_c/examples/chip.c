@@ -1,4 +1,4 @@
-/* An owner of the chip of libuart_c.a: a guest's accesses, time, characters, an interrupt, and a snapshot. */
+/* An owner of the chip of uart_port.c: a guest's accesses, time, characters, an interrupt, and a snapshot. */
 #include "uart_16550.h"
 
 #include <inttypes.h>

@@ -1,4 +1,4 @@
-/* A monitor's serial port over libuart_c.a: a guest with interrupts, input that waits, a slow host, breaks, snapshots, and a clock. */
+/* A monitor's serial port over uart_port.c: a guest with interrupts, input that waits, a slow host, breaks, snapshots, and a clock. */
 #include "uart_16550.h"
 
 #include <inttypes.h>

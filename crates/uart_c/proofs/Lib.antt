@@ -1,14 +1,10 @@
-pub mod Copies
 pub mod Errors
-pub mod Lengths
 pub mod Levels
 pub mod Marks
 pub mod Ports
 pub mod Quick
 pub mod Queues
-pub mod Runnable
 pub mod Saved
 pub mod Stays
-pub mod Steps
 pub mod Told
 pub mod Writes

@@ -4,6 +4,3 @@ pub mod Canonical
 pub mod Status
 pub mod Saved
 pub mod Port
-pub mod Driver
-pub mod Calls
-pub mod Steps

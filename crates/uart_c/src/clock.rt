@@ -41,7 +41,7 @@ pub extern "C" fn uart_clock_after_read(
 ) -> u8
     // promise: a clock of C is one of the port
     // with: uart_clock_after_read.todo, uart_clock_after_write.owed, uart_clock_pass_time.given
-    // shown by: integration/library
+    // shown by: tools/c/compare
     // refused: clock_never_gives, clock_reads_another_register
     // proved: What a monitor with a clock puts off, has left to do and owes is that of a `Clock` of
     //   `uart_virtual`, whatever bytes its structs hold

@@ -82,7 +82,7 @@ pub extern "C" fn uart_chip_new_sized(
     // promise: a chip in C, and a port, has FIFOs of 16, 32, 64 or 128, whatever bytes the struct
     //   holds, and no other is made
     // with: uart_chip_new_sized, uart_port_new_sized, IsCanonical
-    // shown by: integration/library
+    // shown by: tools/c/compare
     // refused: new_sized_takes_any_size, port_new_sized_is_of_16, load_takes_two_sizes
     ensures status { result ≡ sized_status fifo_size char_ticks wire_capacity }
     ensures built { result ≡ UART_OK → chip_of chip.new ≡
@@ -137,10 +137,10 @@ pub extern "C" fn uart_chip_save(chip: &UartChip, saved: &mut UartChip)
 /// The guest reads a register.
 #[unsafe(no_mangle)]
 pub extern "C" fn uart_chip_read(chip: &mut UartChip, offset: u8) -> u8
-    // promise: each function of the library for C is one function of the chip, whatever bytes a
+    // promise: each function of the port in C is one function of the chip, whatever bytes a
     //   struct holds
     // with: uart_chip_read, uart_chip_write, uart_chip_load, sound_chips_stay_sound
-    // shown by: integration/library
+    // shown by: tools/c/compare
     // refused: read_of_another_register, load_takes_any_bytes
     // proved: The caller's struct is some chip, whatever bytes it holds. Each exported function
     //   does to this chip what one function of the chip's definitions says

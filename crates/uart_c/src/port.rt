@@ -336,7 +336,7 @@ pub extern "C" fn uart_port_read(port: &mut UartPort, offset: u8, todo: &mut Uar
     //   and a port that is made or restored stays one
     // with: uart_port_read.todo, uart_port_receive.after, uart_port_load.accepted,
     //   sound_ports_stay_sound.stay
-    // shown by: integration/library
+    // shown by: tools/c/compare
     // refused: port_receive_takes_one_byte, port_load_takes_any_bytes,
     //   port_lets_half_of_the_time_pass
     // proved: The caller's struct is some port, whatever bytes it holds. Each function leaves

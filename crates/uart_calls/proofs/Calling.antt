@@ -3,7 +3,7 @@ use Rattle.std.proofs.Common.{◌≡◌, Bool, [], refl}
 use Rattle.uart_spec.specs.declared.access.Access.{Access}
 use Rattle.uart_16550.specs.Driver.{fields}
 use Rattle.uart_16550.specs.declared.driver.Uart16550.{Uart16550}
-use Rattle.uart_events.specs.declared.call.Answer.TheVariants.{Done, Flag}
+use Rattle.uart_call.specs.declared.call.Answer.TheVariants.{Done, Flag}
 use Rattle.uart_calls.specs.Meaning.{Meaning, Called, MakesNoAccess, ShowsFifo, tells_nothing}
 
 -- `Next`

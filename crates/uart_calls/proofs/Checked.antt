@@ -7,9 +7,9 @@ use Rattle.uart_16550.specs.Choice.{PartAtRead}
 use Rattle.uart_16550.specs.Driver.{Did, Fields, fields}
 use Rattle.uart_16550.specs.State.{fields_of}
 use Rattle.uart_16550.specs.declared.driver.Uart16550.{Uart16550}
-use Rattle.uart_events.specs.declared.call.Call.{Call}
-use Rattle.uart_events.specs.declared.call.Answer.{Answer}
-use Rattle.uart_events.specs.Calls.{IsRunnable}
+use Rattle.uart_call.specs.declared.call.Call.{Call}
+use Rattle.uart_call.specs.declared.call.Answer.{Answer}
+use Rattle.uart_call.specs.Calls.{IsRunnable}
 use Rattle.uart_calls.specs.Meaning.{Meaning, means, meaning, Called, outcome_of, doing_of}
 use Rattle.uart_calls.proofs.NoChoice.{meaning_leaves_no_choice}
 use Rattle.uart_calls.specs.Tape.{Tape, Plays}

@@ -13,9 +13,9 @@ use Rattle.uart_16550.proofs.determined.Doings.{saving_determined}
 use Rattle.uart_16550.proofs.determined.Receive.{receives_determined, receives_exact_determined, receives_with_determined}
 use Rattle.uart_16550.proofs.determined.Io.{reads_determined}
 use Rattle.uart_16550.proofs.determined.Calls.{saving_leaves_no_choice, changing_leaves_no_choice}
-use Rattle.uart_events.specs.declared.call.Call.{Call}
-use Rattle.uart_events.specs.declared.call.Call.TheVariants as call
-use Rattle.uart_events.specs.Calls.{IsRunnable}
+use Rattle.uart_call.specs.declared.call.Call.{Call}
+use Rattle.uart_call.specs.declared.call.Call.TheVariants as call
+use Rattle.uart_call.specs.Calls.{IsRunnable}
 use Rattle.uart_calls.specs.Meaning.{MakesNoAccess, ShowsFifo, ChecksStored, SendsShortText, doing_of, meaning}
 
 no_access_one : LeavesNoChoice {R = Unit {0}} (λ outcome. MakesNoAccess)

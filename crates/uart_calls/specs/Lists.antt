@@ -3,8 +3,8 @@ use Rattle.std.specs.Prelude.{◌≡◌, ◌<◌, List, ◌∷◌, ◌++◌, len
 use Rattle.uart_spec.specs.declared.access.Access.{Access}
 use Rattle.uart_16550.specs.Driver.{Fields}
 use Rattle.uart_16550.specs.State.{fields_of}
-use Rattle.uart_events.specs.declared.call.Call.{Call}
-use Rattle.uart_events.specs.declared.call.Answer.{Answer}
+use Rattle.uart_call.specs.declared.call.Call.{Call}
+use Rattle.uart_call.specs.declared.call.Answer.{Answer}
 use Rattle.uart_calls.specs.Meaning.{Meaning, means, meaning, outcome_of, doing_of}
 use Rattle.uart_calls.specs.Tape.{request_of}
 use Rattle.uart_calls.specs.declared.tape.Request.{Request}

@@ -32,16 +32,16 @@ use Rattle.uart_16550.specs.Tty.{inner_of}
 use Rattle.uart_16550.specs.declared.driver.Uart16550.{Uart16550}
 use Rattle.uart_16550.specs.declared.tty.Uart16550Tty.{Uart16550Tty}
 use Rattle.uart_spec.specs.declared.received.Received.{Received}
-use Rattle.uart_events.specs.declared.call.Call.{Call}
-use Rattle.uart_events.specs.declared.call.Call.TheVariants as call
-use Rattle.uart_events.specs.declared.call.Answer.{Answer}
-use Rattle.uart_events.specs.declared.call.Answer.TheVariants.{Done, Flag, Count, Bytes, BytesWithErrors, Register}
-use Rattle.uart_events.specs.declared.call.Answer.TheVariants.{Latch, Dump, Stalled}
-use Rattle.uart_events.specs.declared.call.Answer.TheVariants.{ReceiveStalled, InitRefused, FrameRefused}
-use Rattle.uart_events.specs.declared.call.Answer.TheVariants.{FrameWhenIdleRefused, FifosOff}
-use Rattle.uart_events.specs.declared.call.Answer.TheVariants.{AttachRefused, NotConfigured, LoopbackRefused}
-use Rattle.uart_events.specs.declared.call.Answer.TheVariants.{NotConnected, NoData, NotSent}
-use Rattle.uart_events.specs.declared.call.TheConstants.{CALL_BYTES}
+use Rattle.uart_call.specs.declared.call.Call.{Call}
+use Rattle.uart_call.specs.declared.call.Call.TheVariants as call
+use Rattle.uart_call.specs.declared.call.Answer.{Answer}
+use Rattle.uart_call.specs.declared.call.Answer.TheVariants.{Done, Flag, Count, Bytes, BytesWithErrors, Register}
+use Rattle.uart_call.specs.declared.call.Answer.TheVariants.{Latch, Dump, Stalled}
+use Rattle.uart_call.specs.declared.call.Answer.TheVariants.{ReceiveStalled, InitRefused, FrameRefused}
+use Rattle.uart_call.specs.declared.call.Answer.TheVariants.{FrameWhenIdleRefused, FifosOff}
+use Rattle.uart_call.specs.declared.call.Answer.TheVariants.{AttachRefused, NotConfigured, LoopbackRefused}
+use Rattle.uart_call.specs.declared.call.Answer.TheVariants.{NotConnected, NoData, NotSent}
+use Rattle.uart_call.specs.declared.call.TheConstants.{CALL_BYTES}
 
 -- ---- the answer for an outcome
 

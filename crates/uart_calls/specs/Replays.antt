@@ -2,7 +2,7 @@
 use Rattle.std.specs.Prelude.{◌≡◌}
 use Rattle.uart_calls.specs.Replay.{Replay, Replayed}
 use Rattle.uart_16550.specs.declared.driver.Uart16550.{Uart16550}
-use Rattle.uart_events.specs.declared.call.Answer.{Answer}
+use Rattle.uart_call.specs.declared.call.Answer.{Answer}
 use Rattle.uart_calls.specs.Meaning.{Meaning}
 
 -- the call had some outcome, with this answer, and what a whole replay shows is a list of the call for that outcome

@@ -2,14 +2,14 @@
 ghost use Rattle.std.specs.Prelude.{◌≡◌, IfSome, IsNone, map};
 ghost use Rattle.uart_16550.specs.Driver.{Fields};
 ghost use Rattle.uart_16550.specs.State.{fields_of};
-ghost use Rattle.uart_events.specs.Calls.{IsRunnable};
-ghost use Rattle.uart_events.specs.declared.call.Answer.{Answer};
+ghost use Rattle.uart_call.specs.Calls.{IsRunnable};
+ghost use Rattle.uart_call.specs.declared.call.Answer.{Answer};
 ghost use Rattle.uart_calls.specs.Lists.{IsFollowed, IsListOf, IsNext, Makes};
 
 use crate::performing::perform;
 use crate::tape::{Recorded, Request, Tape};
 use uart_16550::{DriverState, Uart16550, Uart16550Tty};
-use uart_events::{Answer, Call};
+use uart_call::{Answer, Call};
 
 /// What a call returned, and the state of the driver after it.
 #[derive(Debug, Drop)]

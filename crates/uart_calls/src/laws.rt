@@ -2,14 +2,14 @@
 //!
 //! The contract of each function is a law that callers can cite. The functions do nothing.
 ghost use Rattle.std.specs.Prelude.{◌≡◌};
-ghost use Rattle.uart_events.specs.Calls.{IsRunnable};
+ghost use Rattle.uart_call.specs.Calls.{IsRunnable};
 ghost use Rattle.uart_calls.specs.Meaning.{doing_of, meaning};
 ghost use Rattle.uart_calls.specs.Replay.{Repeats, RepeatsSaving};
 ghost use Rattle.uart_calls.specs.declared.replay.TheConstants.{REPLAY_ROOM};
 ghost use Rattle.uart_16550.specs.Choice.{LeavesNoChoice};
 ghost use Rattle.uart_16550.specs.DriverCalls.{ChangingCall, ChangingDoing};
 ghost use Rattle.uart_16550.specs.DriverCalls.{SavingCall, SavingLists};
-ghost use Rattle.uart_events.specs.declared.call.Call.{Call};
+ghost use Rattle.uart_call.specs.declared.call.Call.{Call};
 
 use uart_16550::backend::Backend;
 

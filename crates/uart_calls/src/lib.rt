@@ -3,7 +3,7 @@
 //!
 //! [`check`] returns whether a list of accesses is one that a call makes; if it returns `None`, the
 //! list is not, whatever the call might have returned. [`next`] returns what the driver does next
-//! after some accesses, and [`follow`] how much of a list it makes. The library for C needs all of
+//! after some accesses, and [`follow`] how much of a list it makes. Judges and runs need all of
 //! this, and no script language: so it is a crate of its own.
 #![tactic(auto)]
 
@@ -18,4 +18,4 @@ mod tests;
 pub use checking::{Followed, NextStep, Returned, Turn, check, follow, next};
 pub use performing::{perform, perform_on_driver};
 pub use tape::{Recorded, Request, Tape};
-pub use uart_events::{Answer, CALL_BYTES, Call};
+pub use uart_call::{Answer, CALL_BYTES, Call};

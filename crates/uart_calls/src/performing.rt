@@ -1,7 +1,7 @@
 //! Makes a call of the driver, over any backend.
 ghost use Rattle.std.specs.Prelude.{◌≡◌, ◌≤◌, length};
 ghost use Rattle.uart_spec.specs.Config.{IsComputable};
-ghost use Rattle.uart_events.specs.Calls.{IsRunnable};
+ghost use Rattle.uart_call.specs.Calls.{IsRunnable};
 ghost use Rattle.uart_calls.specs.Meaning.{Called, IsOfDriver, Performed, meaning};
 ghost use Rattle.uart_calls.specs.Meaning.{attach_answer, frame_answer, loopback_answer, connected_answer};
 ghost use Rattle.uart_calls.specs.Meaning.{frame_when_idle_answer, trigger_answer};
@@ -14,7 +14,7 @@ use bitflags::Flags;
 use uart_16550::backend::Backend;
 use uart_16550::embedded_io::{Read, ReadReady, Write, WriteReady};
 use uart_16550::{Uart16550, Uart16550Tty};
-use uart_events::{Answer, CALL_BYTES, Call};
+use uart_call::{Answer, CALL_BYTES, Call};
 use uart_spec::{
     AttachError, ByteReceiveError, ByteSendError, Config, ConfigurationError, FifosOffError,
     FrameError, InitError, InvalidDivisorError, LoopbackError, Received, RemoteReadyToReceiveError,
@@ -149,8 +149,7 @@ pub fn perform_on_driver<B: Backend>(uart: &mut Uart16550<B>, call: &Call) -> An
     }
 }
 
-// Returns a copy of these items, for an answer. Copies one by one, because a copy of the whole
-// would call `memcpy`, and the library for C calls nothing.
+// Returns a copy of these items, for an answer.
 fn copied<T: Copy + Default>(items: &[T]) -> ArrayVec<T, CALL_BYTES>
     requires { length items.now ≤ CALL_BYTES }
     ensures { result.items ≡ items.now }

@@ -10,6 +10,7 @@ pub mod FifoBits
 pub mod Lists
 pub mod AccessMoves
 pub mod Switching
+pub mod PortLaws
 pub mod lasting
 pub mod soundness
 pub mod conservation

@@ -1,6 +1,7 @@
 -- What comes in and goes out over a session is conserved.
 pub mod Moves
 pub mod Sends
+pub mod Stepped
 pub mod Receives
 pub mod Arrivals
 pub mod Went

@@ -17,3 +17,5 @@ pub mod Sound
 pub mod Conserved
 pub mod Laws
 pub mod Sending
+pub mod Port
+pub mod PortLaws

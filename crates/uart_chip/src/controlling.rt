@@ -36,7 +36,7 @@ use uart_spec::registers::{
 
 /// What a chip is made of: its model, the registers that keep what is written to them, a
 /// transmitter, a receiver and the modem lines, and how each is read and changed.
-// Two types have such parts: `Uart`, and the struct of the library for C. Of the struct any bytes
+// Two types have such parts: `Uart`, and the struct of the port in C. Of that struct any bytes
 // are legal, so its flags are bytes and its lengths may be beyond their arrays: it can be no
 // `Uart`. A `Uart` that is filled from it in each call would more than double what a read of LSR
 // costs.

@@ -94,7 +94,7 @@ impl Device16550 {
     ) -> Result<Self, BuildError>
         // promise: a machine is made, or the first refusal is told; no later call allocates
         // with: new.built, new.refused, new.accepted
-        // shown by: .ci/refused-memory
+        // shown by: each_request_for_memory
         // refused: new_makes_another_chip
         // proved: A machine under a schedule after power on, or the first refusal in a fixed order;
         //   else only `OutOfMemory`. All memory is allocated here

@@ -3,6 +3,7 @@
 //! The contract of each function is a law that callers can cite. The functions do nothing.
 ghost use Rattle.uart_chip.specs.AutoFlow.{AccessesKeepFlow, EventsKeepFlow, HeldOnlyWithFlow};
 ghost use Rattle.uart_chip.specs.AutoFlow.{MarksKeepFlow, ReadsKeepFlow, WritesKeepFlow};
+ghost use Rattle.uart_chip.specs.PortLaws.{PortsLoseNothingSilently};
 ghost use Rattle.uart_chip.specs.Switching.{EventsKeepSizes, ReadsKeepSizes, OnlySwitchesResize};
 ghost use Rattle.uart_chip.specs.Switching.{SizesStayWithoutSwitch, SizesStayWithoutDlab};
 
@@ -39,4 +40,14 @@ pub fn only_with_auto_flow_has_it()
     ensures accesses { AccessesKeepFlow }
     ensures marks { MarksKeepFlow }
     ensures lacking { HeldOnlyWithFlow }
+{}
+
+/// A port loses nothing silently, whatever happens to it: what goes out grew by exactly what was
+/// sent, in order; what was received, and then what waits, is what waited and what came, in order,
+/// with some left out; and none is left out where no loss was told and none is left to be told.
+///
+/// This is what a program concludes of the main theorem, which says of driver and chip that they
+/// are such a port.
+pub fn ports_lose_nothing_silently()
+    ensures { PortsLoseNothingSilently }
 {}

@@ -1,2 +1,1 @@
 pub mod Build
-pub mod Calls

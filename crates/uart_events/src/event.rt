@@ -102,8 +102,9 @@ fn first_bad_lines(events: &[Event]) -> Option<usize>
 /// of [`BuildError`].
 pub fn refusal(char_ticks: u16, wire_capacity: usize, events: &[Event]) -> Option<BuildError>
     // proved: Why no machine can be built, however much memory there is: the first reason in a
-    //   fixed order. How many arrivals a schedule has
-    // on: `refusal`, `arrivals`
+    //   fixed order. How many arrivals a schedule has. A character takes 1000 ticks at most, and
+    //   a wire has room for 65,536 bytes at most
+    // on: `refusal`, `arrivals`, `laws::limits_are_these`
     ensures { result ≡ spec.refusal char_ticks wire_capacity events.now }
 {
     if char_ticks == 0 || char_ticks > MAX_CHAR_TICKS {

@@ -1,20 +1,14 @@
-//! What happens to a driver or to its chip from outside, as plain data: a driver is called, time
-//! passes for a chip, characters arrive at it, and its modem lines change.
+//! What happens to a chip from outside, as plain data: time passes for it, characters arrive at it,
+//! and its modem lines change.
 //!
-//! [`Call`] is a call of the driver, and [`Answer`] is what came of it. [`Event`] is what happens
-//! to a chip, and [`ArrivalMark`] is what became of a character that arrived. The limits are those
-//! of a call as data, and of a machine that is built. Each has one name, which code, clauses and
-//! definitions use.
-//!
-//! What models the chip, what says what calls mean, and the language of scripts stand on this crate
-//! side by side.
+//! [`Event`] is what happens to a chip, and [`ArrivalMark`] is what became of a character that
+//! arrived. The limits are those of a machine that is built. Each has one name, which code, clauses
+//! and definitions use.
 #![tactic(auto)]
 
-mod call;
 mod event;
 pub mod laws;
 
-pub use call::{Answer, CALL_BYTES, Call};
 pub use event::{
     ArrivalMark, BuildError, Chip, Event, MAX_CHAR_TICKS, MAX_WIRE_CAPACITY, arrivals, refusal,
 };

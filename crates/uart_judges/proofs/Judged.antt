@@ -6,9 +6,9 @@ use Rattle.uart_spec.specs.declared.access.Access.TheVariants.{Read}
 use Rattle.uart_16550.specs.Choice.{PartAtRead}
 use Rattle.uart_16550.specs.Driver.{Fields}
 use Rattle.uart_language.specs.Output.{answer_text}
-use Rattle.uart_events.specs.declared.call.Call.{Call}
-use Rattle.uart_events.specs.declared.call.Answer.{Answer}
-use Rattle.uart_events.specs.Calls.{IsRunnable}
+use Rattle.uart_call.specs.declared.call.Call.{Call}
+use Rattle.uart_call.specs.declared.call.Answer.{Answer}
+use Rattle.uart_call.specs.Calls.{IsRunnable}
 use Rattle.uart_calls.specs.Meaning.{meaning, outcome_of}
 use Rattle.uart_calls.proofs.NoChoice.{meaning_leaves_no_choice}
 use Rattle.uart_calls.specs.Lists.{IsFollowed, IsListOf, answer_of}

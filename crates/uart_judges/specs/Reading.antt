@@ -1,7 +1,7 @@
 -- What the bytes of a trace mean, and the first fault of bytes that are no trace.
 use Rattle.std.specs.Prelude.{◌≡◌, ℕ, ◌+◌, Bool, true, false, List, [], ◌∷◌, Option, Some, None, Result, Ok, Err, ⊤}
 use Rattle.uart_spec.specs.declared.access.Access.{Access}
-use Rattle.uart_events.specs.declared.call.Call.{Call}
+use Rattle.uart_call.specs.declared.call.Call.{Call}
 use Rattle.uart_language.specs.Sayings.{plain}
 use Rattle.uart_language.specs.Text.{lines_of}
 use Rattle.uart_judges.specs.TraceLines.{Saying, Nothing, Fresh, Calls, Makes, Returns, says}

@@ -5,8 +5,8 @@ use Rattle.std.specs.List.{list_all, before_first}
 use Rattle.std.specs.Str.Parse.{digits_value}
 use Rattle.uart_spec.specs.declared.access.Access.{Access}
 use Rattle.uart_spec.specs.declared.access.Access.TheVariants as access
-use Rattle.uart_events.specs.Calls.{IsRunnable}
-use Rattle.uart_events.specs.declared.call.Call.{Call}
+use Rattle.uart_call.specs.Calls.{IsRunnable}
+use Rattle.uart_call.specs.declared.call.Call.{Call}
 use Rattle.uart_language.specs.Fields.{◌>>=◌, byte_in}
 use Rattle.uart_language.specs.declared.words.Place.TheVariants.{Later}
 use Rattle.uart_language.specs.Items.{item_at}

@@ -3,7 +3,7 @@ use Rattle.std.specs.Prelude.{◌≡◌, ◌⊎◌, ℕ, List, [], ◌∷◌, if
 use Rattle.uart_spec.specs.declared.setup.FifoSize.{FifoSize}
 use Rattle.uart_16550.specs.Driver.{Fields, with_fifo_size, with_limit}
 use Rattle.uart_16550.specs.State.{fresh_fields}
-use Rattle.uart_events.specs.declared.call.Answer.{Answer}
+use Rattle.uart_call.specs.declared.call.Answer.{Answer}
 use Rattle.uart_language.specs.Output.{answer_text}
 use Rattle.uart_calls.specs.Lists.{IsFollowed, IsListOf}
 use Rattle.uart_judges.specs.declared.traces.judging.Stray.{Stray}

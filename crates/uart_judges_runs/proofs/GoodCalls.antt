@@ -20,9 +20,9 @@ use Rattle.uart_16550.specs.Grammar.{Asks, Settings}
 use Rattle.uart_16550.specs.Receive.{ReadyToReceive, TryReceive}
 use Rattle.uart_16550.specs.Setup.{SetsTrigger, level_bits}
 use Rattle.uart_16550.specs.Transmit.{ReadyToSend}
-use Rattle.uart_events.specs.declared.call.Answer.{Answer}
-use Rattle.uart_events.specs.declared.call.Call.{Call}
-use Rattle.uart_events.specs.declared.call.Call.TheVariants as call
+use Rattle.uart_call.specs.declared.call.Answer.{Answer}
+use Rattle.uart_call.specs.declared.call.Call.{Call}
+use Rattle.uart_call.specs.declared.call.Call.TheVariants as call
 use Rattle.uart_calls.specs.Lists.{IsListOf}
 use Rattle.uart_calls.specs.Meaning.{SendsShortText}
 use Rattle.uart_judges_runs.specs.Calls.{IsSteady}

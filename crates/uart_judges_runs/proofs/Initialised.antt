@@ -16,7 +16,7 @@ use Rattle.uart_spec.specs.declared.registers.modem_control.TheConstants.MCR
 use Rattle.uart_16550.specs.Driver.{Fields, fields}
 use Rattle.uart_16550.specs.Init.{frame_bits}
 use Rattle.uart_16550.specs.Tty.{inner_of}
-use Rattle.uart_events.specs.declared.call.Call.{Call}
+use Rattle.uart_call.specs.declared.call.Call.{Call}
 use Rattle.uart_chip.proofs.Bits.{has_bit, has_one}
 use Rattle.uart_judges.specs.Findings.{enables_some, is_cut_off}
 use Rattle.uart_judges.specs.Shows.{is_cut}

@@ -5,8 +5,8 @@ use Rattle.std.proofs.Common.{arith}
 use Rattle.std.proofs.lemmas.Bool.{or_parts}
 use Rattle.uart_spec.specs.declared.access.Access.{Access as RegisterAccess}
 use Rattle.uart_16550.specs.Driver.{Fields, settings_of}
-use Rattle.uart_events.specs.declared.call.Answer.{Answer}
-use Rattle.uart_events.specs.declared.call.Call.{Call}
+use Rattle.uart_call.specs.declared.call.Answer.{Answer}
+use Rattle.uart_call.specs.declared.call.Call.{Call}
 use Rattle.uart_calls.specs.Lists.{IsListOf}
 use Rattle.uart_spec.specs.FifoSize.{characters}
 use Rattle.uart_spec.specs.declared.setup.FifoSize.{FifoSize}

@@ -1,15 +1,12 @@
 -- Sessions over the software chip: no warning is without a cause.
-use Rattle.std.proofs.Common.{◌≡◌, ℕ, Bool, false, List, [], ◌∷◌, Result, Ok, Err, refl, sym, ◌∙◌, ap, subst}
+use Rattle.std.proofs.Common.{◌≡◌, ℕ, Bool, false, List, [], ◌∷◌, refl, sym, ◌∙◌, subst}
 use Rattle.std.specs.List.{AllByRecursion}
 use Rattle.uart_spec.specs.declared.access.Access.{Access as RegisterAccess}
-use Rattle.uart_spec.specs.declared.errors.FifosOffError.{FifosOffError}
-use Rattle.uart_spec.specs.declared.registers.fifo_trigger_level.FifoTriggerLevel.{FifoTriggerLevel}
 use Rattle.uart_spec.specs.FifoSize.{characters}
 use Rattle.uart_16550.specs.Driver.{Fields, settings_of}
-use Rattle.uart_16550.specs.Setup.{SetsTrigger}
-use Rattle.uart_events.specs.declared.call.Answer.{Answer}
-use Rattle.uart_events.specs.declared.call.Call.{Call}
-use Rattle.uart_events.specs.declared.call.Call.TheVariants as call
+use Rattle.uart_call.specs.declared.call.Answer.{Answer}
+use Rattle.uart_call.specs.declared.call.Call.{Call}
+use Rattle.uart_call.specs.declared.call.Call.TheVariants as call
 use Rattle.uart_calls.specs.Lists.{IsListOf}
 use Rattle.uart_chip.specs.Machine.{MachineState}
 use Rattle.uart_judges.specs.History.{known}
@@ -18,7 +15,8 @@ use Rattle.uart_judges_runs.specs.Calls.{IsSteady, KnowsAsTaken}
 use Rattle.uart_judges_runs.specs.Causes.{AsksFor, Causes, GivesOnly, IsSetUpFor, KnowsFor, is_unfounded}
 use Rattle.uart_judges_runs.specs.Recorded.{HasNone, accesses_in, told}
 use Rattle.uart_judges_runs.specs.Runs.{IsSession}
-use Rattle.uart_run.proofs.CallBlocks.{most_in}
+use Rattle.uart_run.specs.Progress.{KeepsChecks}
+use Rattle.uart_run.proofs.{CallBlocks.most_in, SizeKept.checks_left}
 use Rattle.uart_judges_runs.proofs.CallLists.{list_of}
 use Rattle.uart_judges_runs.proofs.GoodCalls.{good_list}
 use Rattle.uart_judges_runs.proofs.GoodLists.{IsClear}
@@ -34,33 +32,15 @@ module _ (c : Causes) (line : ℕ) where
   abbrev Checks : Fields → Bool
   Checks g = g.config.check_cts_before_sending
 
-  level_checks : (v : FifoTriggerLevel) (r : Result (Unit {0}) FifosOffError) (f after : Fields) (l : List RegisterAccess) →
-      SetsTrigger v r f l after → Checks after ≡ Checks f
-  level_checks v (Ok u) f after l (on, d) = ap Checks d.second.1 ∙ ap Checks d.first.1
-  level_checks v (Err e) f after l (off, is, same) = ap Checks same
+  -- a steady call is no `init`
+  steady_keeps : (x : Call) → IsSteady x → KeepsChecks x
+  steady_keeps (call.Init config) i = absurd i
+  steady_keeps (call.InitWith config setup) i = absurd i
+  steady_keeps other i = tt
 
   same_checks : (x : Call) (f after : Fields) (l : List RegisterAccess) (a : Answer) → IsSteady x → IsListOf x f l a after →
       Checks after ≡ Checks f
-  same_checks (call.Init config) f after l a i h = absurd i
-  same_checks (call.InitWith config setup) f after l a i h = absurd i
-  same_checks (call.SetFrame config) f after l a i h = absurd i
-  same_checks (call.SetFrameWhenIdle config) f after l a i h = absurd i
-  same_checks (call.SetTriggerLevel v) f after l a i h = level_checks v h.outcome f after l h.does
-  same_checks call.Attach f after l a i h = absurd i
-  same_checks (call.SetBreak on) f after l a i h = absurd i
-  same_checks (call.SetModemControl outputs) f after l a i h = absurd i
-  same_checks (call.SetRts on) f after l a i h = absurd i
-  same_checks (call.SetDtr on) f after l a i h = absurd i
-  same_checks (call.Quiesce outputs fifos) f after l a i h = absurd i
-  same_checks (call.Restore dump) f after l a i h = absurd i
-  same_checks call.TestLoopback f after l a i h = absurd i
-  same_checks call.Lsr f after l a i h = ap Checks h.does.3
-  same_checks call.Msr f after l a i h = ap Checks h.does.3
-  same_checks call.FifoEnabled f after l a i h = ap Checks h.does.1.1
-  same_checks call.Dump f after l a i h = ap Checks h.does.keeps
-  same_checks (call.Enable bits) f after l a i h = ap Checks h.does.2
-  same_checks (call.Disable bits) f after l a i h = ap Checks h.does.2
-  same_checks _ f after l a i h = ap Checks h.does.1
+  same_checks x f after l a i h = checks_left x (steady_keeps x i) h.outcome f l after h.does
 
   set_after : (f after : Fields) → IsSetUpFor c line f → after.fifo ≡ f.fifo → Checks after ≡ Checks f → IsSetUpFor c line after
   set_after f after set same checks = record {

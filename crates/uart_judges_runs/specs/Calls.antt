@@ -7,8 +7,8 @@ use Rattle.uart_spec.specs.declared.registers.interrupt_status.TheConstants.ISR
 use Rattle.uart_spec.specs.declared.registers.line_control.TheConstants.LCR
 use Rattle.uart_spec.specs.declared.registers.modem_control.TheConstants.MCR
 use Rattle.uart_spec.specs.declared.registers.offsets.TheConstants as offsets
-use Rattle.uart_events.specs.declared.call.Call.{Call}
-use Rattle.uart_events.specs.declared.call.Call.TheVariants as call
+use Rattle.uart_call.specs.declared.call.Call.{Call}
+use Rattle.uart_call.specs.declared.call.Call.TheVariants as call
 use Rattle.uart_spec.specs.declared.setup.FifoSize.TheVariants.{Sixteen}
 use Rattle.uart_chip.specs.Transmitter.{room}
 use Rattle.uart_judges.specs.Findings.{is_open}

@@ -12,8 +12,8 @@ use Rattle.uart_spec.specs.declared.registers.line_control.TheConstants.LCR
 use Rattle.uart_spec.specs.declared.registers.offsets.TheConstants as offsets
 use Rattle.uart_16550.specs.Driver.{Fields}
 use Rattle.uart_16550.specs.Expansion.{expansion}
-use Rattle.uart_events.specs.declared.call.Call.{Call}
-use Rattle.uart_events.specs.declared.call.Call.TheVariants as call
+use Rattle.uart_call.specs.declared.call.Call.{Call}
+use Rattle.uart_call.specs.declared.call.Call.TheVariants as call
 use Rattle.uart_events.specs.declared.event.Chip.{Chip}
 use Rattle.uart_chip.specs.Machine.{MachineState}
 use Rattle.uart_judges.specs.Findings.{enables_some, is_cut_off, is_held, is_zero}

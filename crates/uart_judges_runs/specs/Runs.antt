@@ -3,8 +3,8 @@ use Rattle.std.specs.Prelude.{◌≡◌, false, List, [], ◌∷◌, ◌++◌}
 use Rattle.uart_spec.specs.Access.{Path}
 use Rattle.uart_spec.specs.declared.access.Access.{Access}
 use Rattle.uart_16550.specs.Driver.{Fields}
-use Rattle.uart_events.specs.declared.call.Call.{Call}
-use Rattle.uart_events.specs.declared.call.Answer.{Answer}
+use Rattle.uart_call.specs.declared.call.Call.{Call}
+use Rattle.uart_call.specs.declared.call.Answer.{Answer}
 use Rattle.uart_calls.specs.Lists.{IsListOf}
 use Rattle.uart_chip.specs.Chip.{is_dlab_set, is_loopback}
 use Rattle.uart_chip.specs.Machine.{MachineState, MachineStep}

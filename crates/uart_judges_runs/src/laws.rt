@@ -12,8 +12,8 @@ ghost use Rattle.uart_spec.specs.declared.registers.frame.WordLength.TheVariants
 ghost use Rattle.uart_16550.specs.Driver.{Fields, fields};
 ghost use Rattle.uart_16550.specs.Init.{frame_bits};
 ghost use Rattle.uart_16550.specs.Tty.{inner_of};
-ghost use Rattle.uart_events.specs.declared.call.Call.{Call};
-ghost use Rattle.uart_events.specs.declared.call.Answer.{Answer};
+ghost use Rattle.uart_call.specs.declared.call.Call.{Call};
+ghost use Rattle.uart_call.specs.declared.call.Answer.{Answer};
 ghost use Rattle.uart_events.specs.declared.event.Chip.TheVariants.{Uart16550A};
 ghost use Rattle.uart_chip.specs.Chip.{is_dlab_set};
 ghost use Rattle.uart_chip.specs.Machine.{MachineState, MachineStep};

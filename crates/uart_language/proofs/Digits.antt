@@ -10,7 +10,7 @@ use Rattle.std.proofs.lemmas.List.{append-nil, nil_from_length, take_all, length
 use Rattle.std.specs.Str.{IsUtf8, is_utf8}
 use Rattle.std.proofs.lemmas.Str.{is_utf8-from_IsUtf8, IsUtf8-from_is_utf8}
 use Rattle.std.proofs.lemmas.Bool.{and_parts, cases_Bool}
-use Rattle.uart_events.specs.declared.call.TheConstants.{CALL_BYTES}
+use Rattle.uart_call.specs.declared.call.TheConstants.{CALL_BYTES}
 use Rattle.uart_language.specs.declared.cause.Cause.TheVariants.{BadText}
 use Rattle.uart_language.specs.declared.limits.TheConstants.{MOST_DIGITS}
 use Rattle.uart_language.specs.Fields.{pairs_of, bytes_in, text_in}

@@ -13,8 +13,8 @@ use Rattle.uart_spec.specs.declared.registers.interrupt_enable.IER.{IER}
 use Rattle.uart_spec.specs.declared.registers.modem_control.MCR.{MCR}
 use Rattle.uart_spec.specs.declared.setup.TransmitterWait.{TransmitterWait}
 use Rattle.uart_events.specs.declared.event.Event.TheVariants as event
-use Rattle.uart_events.specs.declared.call.Call.{Call}
-use Rattle.uart_events.specs.declared.call.Call.TheVariants as call
+use Rattle.uart_call.specs.declared.call.Call.{Call}
+use Rattle.uart_call.specs.declared.call.Call.TheVariants as call
 use Rattle.uart_language.specs.declared.cause.Cause.{Cause}
 use Rattle.uart_language.specs.declared.cause.Cause.TheVariants.{BadByte, Misplaced, UnknownWord, WrongCount}
 use Rattle.uart_language.specs.declared.words.Place.{Place}

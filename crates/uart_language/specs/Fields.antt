@@ -24,7 +24,7 @@ use Rattle.uart_spec.specs.declared.setup.FifoSize.TheVariants.{TwoHundredFiftyS
 use Rattle.uart_spec.specs.declared.setup.TransmitterWait.{TransmitterWait}
 use Rattle.uart_spec.specs.declared.setup.TransmitterWait.TheVariants.{First, Last, Never as NoWait}
 use Rattle.uart_events.specs.declared.event.TheConstants.{MAX_CHAR_TICKS, MAX_WIRE_CAPACITY}
-use Rattle.uart_events.specs.declared.call.TheConstants.{CALL_BYTES}
+use Rattle.uart_call.specs.declared.call.TheConstants.{CALL_BYTES}
 use Rattle.uart_events.specs.declared.event.Chip.{Chip}
 use Rattle.uart_events.specs.declared.event.Chip.TheVariants.{Uart16550A, Uart16450}
 use Rattle.uart_language.specs.declared.cause.Cause.{Cause}

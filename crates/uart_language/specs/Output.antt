@@ -24,8 +24,8 @@ use Rattle.uart_spec.specs.declared.dump.ConfigRegisterDump.{ConfigRegisterDump}
 use Rattle.uart_events.specs.declared.event.ArrivalMark.{ArrivalMark}
 use Rattle.uart_events.specs.declared.event.ArrivalMark.TheVariants as mark
 use Rattle.uart_spec.specs.declared.received.Received.{Received}
-use Rattle.uart_events.specs.declared.call.Answer.{Answer}
-use Rattle.uart_events.specs.declared.call.Answer.TheVariants as answer
+use Rattle.uart_call.specs.declared.call.Answer.{Answer}
+use Rattle.uart_call.specs.declared.call.Answer.TheVariants as answer
 use Rattle.uart_language.specs.declared.cause.Cause.{Cause}
 use Rattle.uart_language.specs.declared.cause.Cause.TheVariants.{BadByte, Misplaced, UnknownWord, WrongCount, BadWord}
 use Rattle.uart_language.specs.declared.cause.Cause.TheVariants.{BadNumber, BadHex, TooManyBytes, BadText, TooLong}

@@ -9,7 +9,7 @@ use Rattle.uart_events.specs.declared.event.TheConstants.{MAX_CHAR_TICKS, MAX_WI
 use Rattle.uart_events.specs.Build.{IsLegal}
 use Rattle.uart_events.specs.declared.event.Chip.{Chip}
 use Rattle.uart_events.specs.declared.event.Event.{Event}
-use Rattle.uart_events.specs.declared.call.Call.{Call}
+use Rattle.uart_call.specs.declared.call.Call.{Call}
 use Rattle.uart_language.specs.declared.cause.Cause.{Cause}
 use Rattle.uart_language.specs.declared.cause.Cause.TheVariants.{BadByte, Misplaced, UnknownWord, WrongCount, TooLong}
 use Rattle.uart_language.specs.declared.cause.ScriptError.{ScriptError}
@@ -18,7 +18,7 @@ use Rattle.uart_language.specs.declared.limits.TheConstants.{MOST_BYTES, MOST_LI
 use Rattle.uart_language.specs.declared.parsing.Script.{Script}
 use Rattle.uart_language.specs.declared.words.Place.{Place}
 use Rattle.uart_language.specs.declared.words.Word.{Word}
-use Rattle.uart_events.specs.Calls.{IsRunnable}
+use Rattle.uart_call.specs.Calls.{IsRunnable}
 use Rattle.uart_language.specs.Text.{lines_of, words_of, word_at, has_bad_byte}
 use Rattle.uart_language.specs.Fields.{char_ticks_in, wire_capacity_in, kind, chip_in}
 use Rattle.uart_language.specs.Words.{word_of, has_count, is_limited, is_placed, place_of, fields_of}

@@ -20,7 +20,8 @@ use super::numbers::number_of;
 use arrayvec::{ArrayString, ArrayVec};
 use bitflags::Flags;
 use std::num::NonZeroU64;
-use uart_events::{CALL_BYTES, Chip, MAX_CHAR_TICKS, MAX_WIRE_CAPACITY};
+use uart_call::CALL_BYTES;
+use uart_events::{Chip, MAX_CHAR_TICKS, MAX_WIRE_CAPACITY};
 use uart_spec::registers::{FifoTriggerLevel, IER, ISR, LCR, LSR, MCR, MSR, WordLength};
 use uart_spec::{BaudRate, ConfigRegisterDump, FifoAction, FifoSize, TransmitterWait};
 

@@ -17,7 +17,8 @@ use super::fields::{
 use super::text::{has_bad_byte, word_at, word_count};
 use super::words::{Place, Word, has_count, is_placed, word_of};
 use std::num::NonZeroU64;
-use uart_events::{Call, Event};
+use uart_call::Call;
+use uart_events::Event;
 use uart_spec::registers::WordLength;
 use uart_spec::{BaudRate, Config, FifoSize, Setup};
 

@@ -15,7 +15,8 @@ ghost use Rattle.uart_language.specs.Output.{printed};
 
 use bitflags::Flags;
 use std::alloc::{AllocError, Global};
-use uart_events::{Answer, ArrivalMark};
+use uart_call::Answer;
+use uart_events::ArrivalMark;
 use uart_spec::{
     AttachError, ByteSendError, ConfigRegisterDump, ConfigurationError, FrameError, InitError,
     InvalidDivisorError, LoopbackError, Received, RemoteReadyToReceiveError,

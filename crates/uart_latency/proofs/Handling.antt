@@ -4,7 +4,7 @@ use Rattle.uart_latency.proofs.Names.{◌++◌, length, refl, sym, ◌∙◌, ap
 use Rattle.uart_latency.proofs.Names.{MatchOption, nat_tests, common_steps, Path, has_any, Access, Read, Settings, InOrder, Hit, Receives}
 use Rattle.uart_latency.proofs.Names.{MachineState, MachineStep, at_access, has_one, ChipState, interrupt, ReceiverState, characters_of}
 use Rattle.uart_latency.proofs.Names.{is_data_pending, path_as, Kept, kept_access, IsOnlyIfAny, characters, InterruptType, RingFields}
-use Rattle.uart_latency.proofs.Names.{RingTimes, free, FillsReceiveRing, NotesLine, mul-le-mul_right, ServesOne, ServesInterrupt, Stops}
+use Rattle.uart_latency.proofs.Names.{free, FillsReceiveRing, mul-le-mul_right, ServesData, ServesInterrupt, ServesLine, ServesTimes, Stops}
 use Rattle.uart_latency.proofs.Names.{Handles, TriesToHandle, HandlesRound, StaysStuck, CountsRound, counts_as, has_moved, unless_stuck}
 use Rattle.uart_latency.proofs.Names.{round_limit, StuckError, HandleEnd, Idle, Handled, named, late_if, late_at, given_back, passing}
 use Rattle.uart_latency.proofs.Names.{IsPrompt, AreQuick, AreOthersQuick, reads, beside, IsQuickHandle}
@@ -160,13 +160,15 @@ tells_line errors isr [] m n path tells = absurd tells
 tells_line errors isr (line ∷ l) m n path tells = tells.0
 
 -- rounds, and then a read of ISR that shows no interrupt, and others
-rounds : (errors served : ℕ) (f mid : RingFields) (front : List Access) (isr : ℕ) (tail : List Access) (m n : MachineState) →
-    RingTimes served ServesOne f front mid → IsOnlyIfAny (Identifies isr) None → Told errors (front ++ Read offsets.ISR isr ∷ tail) m n →
+rounds : (errors served : ℕ) (room left : Bool) (f mid : RingFields) (front : List Access) (isr : ℕ)
+    (tail : List Access) (m n : MachineState) →
+    ServesTimes true served room left f front mid → IsOnlyIfAny (Identifies isr) None →
+    Told errors (front ++ Read offsets.ISR isr ∷ tail) m n →
     ReadsFirst errors (slots_of f) (front ++ Read offsets.ISR isr ∷ tail)
-rounds errors zero f mid front isr tail m n r none told =
-    let list : front ++ Read offsets.ISR isr ∷ tail ≡ Read offsets.ISR isr ∷ tail = ap (λ zs. zs ++ Read offsets.ISR isr ∷ tail) r.0 in
+rounds errors zero room left f mid front isr tail m n r none told =
+    let list : front ++ Read offsets.ISR isr ∷ tail ≡ Read offsets.ISR isr ∷ tail = ap (λ zs. zs ++ Read offsets.ISR isr ∷ tail) r.1.0 in
     absurd (tells_none errors isr tail m n none (told_as errors _ _ m n list told))
-rounds zero (suc k) f mid front isr tail m n r none told =
+rounds zero (suc k) room left f mid front isr tail m n (next, r) none told =
     let one = r.first in
     let served = one.0 in
     let b = one.1 in
@@ -177,9 +179,13 @@ rounds zero (suc k) f mid front isr tail m n r none told =
     ap (λ zs. zs ++ others) (r.whole ∙ ap (λ zs. zs ++ r.back) (b.whole ∙ ap (λ zs. zs ++ b.back) b.first.0.2.0.is)) in
     let here = told_as zero _ _ m n list told in
     let is : served ≡ interrupts.ReceivedDataReady = some_is served _ (sym (shown shows served m here.0.0 only here.0.1) ∙ here.1) in
-    let V : InterruptType → Type 0 = λ i. ServesInterrupt i b.mid b.back r.mid in
-    let fills : FillsReceiveRing b.mid b.back r.mid = subst V is b.second in
+    let V : InterruptType → Type 0 = λ i. ServesInterrupt true room next i b.mid b.back r.mid in
+    let got : (next ≡ false) × ServesData room b.mid b.back r.mid = subst V is b.second in
+    let d = got.1 in
+    let fills : FillsReceiveRing b.mid d.front d.mid = d.first in
     let h = filled_list _ fills.0 _ fills.1.front fills.1.first.0.0 in
+    let parts : b.back ≡ fills.1.front ++ (fills.1.back ++ d.back) =
+    d.whole ∙ (ap (λ zs. zs ++ d.back) fills.1.whole ∙ append_assoc fills.1.front fills.1.back d.back) in
     let same : slots_of b.mid ≡ slots_of f = ap (λ (g : RingFields). slots_of g) b.first.1 ∙
     ap (λ driver. min (characters driver.size) (free f.receive)) b.first.0.2.1 in
     record {
@@ -187,13 +193,13 @@ rounds zero (suc k) f mid front isr tail m n r none told =
       front = [];
       pairs = h.0;
       fill = fills.1.front;
-      rest = fills.1.back ++ (r.back ++ others);
-      whole = list ∙ (ap (λ zs. (((Read offsets.ISR shows ∷ []) ++ zs) ++ r.back) ++ others) fills.1.whole ∙
-          joined (Read offsets.ISR shows) fills.1.front fills.1.back r.back others);
+      rest = (fills.1.back ++ d.back) ++ (r.back ++ others);
+      whole = list ∙ (ap (λ zs. (((Read offsets.ISR shows ∷ []) ++ zs) ++ r.back) ++ others) parts ∙
+          joined (Read offsets.ISR shows) fills.1.front (fills.1.back ++ d.back) r.back others);
       told = refl;
       filled = let F : ℕ → Type 0 = λ slots. Filled slots h.0 fills.1.front in subst F same h.1;
     }
-rounds (suc errors) (suc k) f mid front isr tail m n r none told =
+rounds (suc errors) (suc k) room left f mid front isr tail m n (next, r) none told =
     let one = r.first in
     let served = one.0 in
     let b = one.1 in
@@ -206,15 +212,15 @@ rounds (suc errors) (suc k) f mid front isr tail m n r none told =
     let here = told_as (suc errors) _ _ m n list told in
     let line = tells_line errors (Read offsets.ISR shows) (b.back ++ (r.back ++ others)) m n here.0 here.1 in
     let is : served ≡ interrupts.ReceiverLineStatus = some_is served _ (sym (shown shows served m here.0.0 only here.0.1) ∙ line) in
-    let V : InterruptType → Type 0 = λ i. ServesInterrupt i b.mid b.back r.mid in
-    let notes : NotesLine b.mid b.back r.mid = subst V is b.second in
-    let lsr = notes.1.0.0 in
+    let V : InterruptType → Type 0 = λ i. ServesInterrupt true room next i b.mid b.back r.mid in
+    let notes : ServesLine true next b.mid b.back r.mid = subst V is b.second in
+    let lsr = notes.2.0.0 in
     let both : front ++ others ≡ Read offsets.ISR shows ∷ Read offsets.LSR lsr ∷ (r.back ++ others) =
-    list ∙ ap (λ zs. Read offsets.ISR shows ∷ (zs ++ (r.back ++ others))) notes.1.0.1 in
+    list ∙ ap (λ zs. Read offsets.ISR shows ∷ (zs ++ (r.back ++ others))) notes.2.0.1 in
     let there = told_as (suc errors) _ _ m n both told in
-    let later = rounds errors k r.mid mid r.back isr tail there.0.2.0 n r.second none (there.0.2.2, there.1.1) in
+    let later = rounds errors k next left r.mid mid r.back isr tail there.0.2.0 n r.second none (there.0.2.2, there.1.1) in
     let same : slots_of r.mid ≡ slots_of f =
-    ap (λ (g : RingFields). slots_of g) notes.1.1 ∙ (ap (λ driver. min (characters driver.size) (free b.mid.receive)) notes.1.0.3 ∙
+    ap (λ (g : RingFields). slots_of g) notes.2.1 ∙ (ap (λ driver. min (characters driver.size) (free b.mid.receive)) notes.2.0.3 ∙
     (ap (λ (g : RingFields). slots_of g) b.first.1 ∙ ap (λ driver. min (characters driver.size) (free f.receive)) b.first.0.2.1)) in
     record {
       first = Read offsets.ISR shows;
@@ -230,7 +236,7 @@ rounds (suc errors) (suc k) f mid front isr tail m n r none told =
 -- the whole list of a `handle` that ends with `Idle`
 reads_first : (errors limit : ℕ) (handled : Handled) (f : RingFields) (l : List Access) (after : RingFields) →
     Handles limit handled f l after → handled.end ≡ Idle → (m n : MachineState) → Told errors l m n → ReadsFirst errors (slots_of f) l
-reads_first errors limit handled f l after t idle m n told =
+reads_first errors limit handled f l after (room, t) idle m n told =
     let q = t.first.1 in
     let S : HandleEnd → Type 0 = λ end. Stops end q.mid q.back t.mid in
     let stop : Stops Idle q.mid q.back t.mid = subst S idle q.second in
@@ -239,7 +245,8 @@ reads_first errors limit handled f l after t idle m n told =
     t.whole ∙ (ap (λ zs. zs ++ t.back) (q.whole ∙ ap (λ zs. q.front ++ zs) stop.0.3.0.is) ∙
     append_assoc q.front (Read offsets.ISR isr ∷ []) t.back) in
     let R : List Access → Type 0 = λ k. ReadsFirst errors (slots_of f) k in
-    subst R (sym list) (rounds errors handled.served f q.mid q.front isr t.back m n q.first stop.0.1 (told_as errors _ _ m n list told))
+    subst R (sym list) (rounds errors handled.served false room f q.mid q.front isr t.back m n q.first stop.0.1
+    (told_as errors _ _ m n list told))
 
 -- from a list to one that is the same
 abbrev Comes : (t d b e late : ℕ) (m n : MachineState) → List Access → Type 0
@@ -261,15 +268,16 @@ record LooksFirst (l : List Access) : Type 0 where
   pub back : List Access
   pub whole : l ≡ Read offsets.ISR isr ∷ Read offsets.LSR line ∷ (front ++ next ∷ back)
 
-line_first : (served : ℕ) (f mid : RingFields) (front : List Access) (isr : ℕ) (tail : List Access) (m n : MachineState) →
-    RingTimes served ServesOne f front mid → IsOnlyIfAny (Identifies isr) None →
+line_first : (served : ℕ) (room left : Bool) (f mid : RingFields) (front : List Access) (isr : ℕ)
+    (tail : List Access) (m n : MachineState) →
+    ServesTimes true served room left f front mid → IsOnlyIfAny (Identifies isr) None →
     interrupt (at_access m).chip ≡ Some interrupts.ReceiverLineStatus → Path MachineStep m (front ++ Read offsets.ISR isr ∷ tail) n →
     LooksFirst (front ++ Read offsets.ISR isr ∷ tail)
-line_first zero f mid front isr tail m n r none line path =
-    let list : front ++ Read offsets.ISR isr ∷ tail ≡ Read offsets.ISR isr ∷ tail = ap (λ zs. zs ++ Read offsets.ISR isr ∷ tail) r.0 in
+line_first zero room left f mid front isr tail m n r none line path =
+    let list : front ++ Read offsets.ISR isr ∷ tail ≡ Read offsets.ISR isr ∷ tail = ap (λ zs. zs ++ Read offsets.ISR isr ∷ tail) r.1.0 in
     let there = path_as m n (front ++ Read offsets.ISR isr ∷ tail) (Read offsets.ISR isr ∷ tail) list path in
     absurd (none_shown isr m there.0 interrupts.ReceiverLineStatus none there.1 line)
-line_first (suc k) f mid front isr tail m n r none line path =
+line_first (suc k) room left f mid front isr tail m n (next, r) none line path =
     let one = r.first in
     let served = one.0 in
     let b = one.1 in
@@ -281,15 +289,15 @@ line_first (suc k) f mid front isr tail m n r none line path =
     ap (λ zs. Read offsets.ISR shows ∷ zs) (append_assoc b.back r.back others) in
     let here = path_as m n (front ++ others) (Read offsets.ISR shows ∷ (b.back ++ (r.back ++ others))) list path in
     let is : served ≡ interrupts.ReceiverLineStatus = some_is served _ (sym (shown shows served m here.0 only here.1) ∙ line) in
-    let V : InterruptType → Type 0 = λ i. ServesInterrupt i b.mid b.back r.mid in
-    let notes : NotesLine b.mid b.back r.mid = subst V is b.second in
+    let V : InterruptType → Type 0 = λ i. ServesInterrupt true room next i b.mid b.back r.mid in
+    let notes : ServesLine true next b.mid b.back r.mid = subst V is b.second in
     record {
       isr = shows;
-      line = notes.1.0.0;
+      line = notes.2.0.0;
       front = r.back;
       next = Read offsets.ISR isr;
       back = tail;
-      whole = list ∙ ap (λ zs. Read offsets.ISR shows ∷ (zs ++ (r.back ++ others))) notes.1.0.1;
+      whole = list ∙ ap (λ zs. Read offsets.ISR shows ∷ (zs ++ (r.back ++ others))) notes.2.0.1;
     }
 
 -- of two parts, of which the second has an access, the first access is quick
@@ -303,7 +311,7 @@ tells : (t d : ℕ) (r : ReceiverState) (early : d < (characters r.size - charac
     (e b late limit : ℕ) (handled : Handled) (f : RingFields) (l : List Access) (after : RingFields) (m n : MachineState) →
     Handles limit handled f l after → handled.end ≡ Idle → Quickly e l m n → IsReached t d r early late (at_access m) → late ≤ b →
     b + 2 * e ≤ d → (errors : ℕ) × (errors ≤ 1) × Told errors l m n
-tells t d r early e b late limit handled f l after m n does idle quickly reached found fits =
+tells t d r early e b late limit handled f l after m n (room, does) idle quickly reached found fits =
     by (first_told (at_access m).chip reached.enabled (pending t d r early late (at_access m) reached))
   where
     by : (interrupt (at_access m).chip ≡ Some interrupts.ReceiverLineStatus)
@@ -317,7 +325,7 @@ tells t d r early e b late limit handled f l after m n does idle quickly reached
         let list : l ≡ q.front ++ Read offsets.ISR isr ∷ does.back =
         does.whole ∙ (ap (λ zs. zs ++ does.back) (q.whole ∙ ap (λ zs. q.front ++ zs) stop.0.3.0.is) ∙
         append_assoc q.front (Read offsets.ISR isr ∷ []) does.back) in
-        let first = line_first handled.served f q.mid q.front isr does.back m n q.first stop.0.1 line
+        let first = line_first handled.served false room f q.mid q.front isr does.back m n q.first stop.0.1 line
         (path_as m n l (q.front ++ Read offsets.ISR isr ∷ does.back) list quickly.0) in
         let whole = list ∙ first.whole in
         let Q : List Access → Type 0 = λ k. Quickly e k m n in

@@ -5,13 +5,14 @@ use Rattle.uart_latency.proofs.Names.{inl, inr, AllByRecursion, MatchOption, fal
 use Rattle.uart_latency.proofs.Names.{Write, InterruptType, switched, unlooped, Settings, Then, Asks, InOrder, Receives, Hit, is_dlab_set}
 use Rattle.uart_latency.proofs.Names.{MachineState, MachineStep, at_mark, ier_bits, has_and, has_or, each-append, path_as, path_split, Kept}
 use Rattle.uart_latency.proofs.Names.{kept_in, keep, kept_after, kept_step, kept_path, kept_list, kept-before_mark, Implies, RingDoing}
-use Rattle.uart_latency.proofs.Names.{RingFields, OnDriver, Stays, RingSets, RingNext, RingTimes, IfAny, free, is_full, sendable}
+use Rattle.uart_latency.proofs.Names.{RingFields, OnDriver, Stays, RingSets, RingNext, IfAny, free, is_full, sendable}
 use Rattle.uart_latency.proofs.Names.{without_sent, without_taken, with_received, with_queued, with_hold, with_urgent, with_low_mark}
 use Rattle.uart_latency.proofs.Names.{with_low, with_rounds, with_paused, cleared, unchanged, with_told_xoff, looked, restarted, ArmsIfLeft}
 use Rattle.uart_latency.proofs.Names.{Pumps, Queues, ResumesTransmit, Holds, Releases, QueuesUrgent, ClearsTransmit, SetsLowMark, TakesLow}
 use Rattle.uart_latency.proofs.Names.{PausesIfFull, FillsReceiveRing, EndsPause, TakesBytes, ClearsReceive, write_if_other, MakesRtsIfAny}
 use Rattle.uart_latency.proofs.Names.{AdjustsRts, rts_at, flow_character, TellsIfAny, AdjustsXoff, xon, Obeys, ObeysXoff, TakesLine}
-use Rattle.uart_latency.proofs.Names.{TakesModem, ShowsInterrupt, ServesInterrupt, ServesOne, Stops, ServesUpTo, Services, Retriggers}
+use Rattle.uart_latency.proofs.Names.{TakesModem, ShowsInterrupt, ServesInterrupt, SendsAndRetriggers, SendsOnIf, ServesData}
+use Rattle.uart_latency.proofs.Names.{ServesOne, ServesTimes, Stops, ServesUpTo, Services, Retriggers}
 use Rattle.uart_latency.proofs.Names.{RetriggersUnlessIdle, Handles, LooksOnceMore, CountsUnfinished, CountsRound, HandlesRound, StaysStuck}
 use Rattle.uart_latency.proofs.Names.{TriesToHandle, Restarts, not_paused, counts_as, has_moved, unless_stuck, round_limit, ReceiveMarks}
 use Rattle.uart_latency.proofs.Names.{StuckError, HandleEnd, Idle, Unknown, Limit, Handled, at_marks}
@@ -280,29 +281,39 @@ fills f l after (bytes, t) =
     let room = min (characters f.driver.size) (free f.receive) in
     both (OnDriver (Saving (Receives room bytes)) (with_received bytes)) PausesIfFull (receives room bytes) pauses f l after t
 
-serves : (interrupt : InterruptType) → Implies (ServesInterrupt interrupt) Keeps
-serves interrupts.ReceiverLineStatus f l after (result, (t, same)) =
+sends_on : (room : Bool) → Implies (SendsOnIf room) Keeps
+sends_on true f l after (zero, t) =
+    spared f after l (sends_leave (sendable f) 0 (settings_of f.driver) l t.0.0) (ap (λ (k : RingFields). k.is_paused) t.1)
+sends_on true f l after (suc n, t) = pumps f l after (suc n, t)
+sends_on false f l after t = stays f l after t
+
+serves_data : (room : Bool) → Implies (ServesData room) Keeps
+serves_data room f l after t = both FillsReceiveRing (SendsOnIf room) fills (sends_on room) f l after t
+
+serves : (sends room left : Bool) (interrupt : InterruptType) → Implies (ServesInterrupt sends room left interrupt) Keeps
+serves sends room left interrupts.ReceiverLineStatus f l after (result, told, (t, same)) =
     reads offsets.LSR t.0 f after l t.1 (ap (λ (k : RingFields). k.is_paused) same)
-serves interrupts.ReceivedDataReady f l after t = fills f l after t
-serves interrupts.ReceptionTimeout f l after t = fills f l after t
-serves interrupts.TransmitterHoldingRegisterEmpty f l after t = pumps f l after t
-serves interrupts.ModemStatus f l after (result, (t, same)) =
+serves sends room left interrupts.ReceivedDataReady f l after (is, t) = serves_data room f l after t
+serves sends room left interrupts.ReceptionTimeout f l after (is, t) = serves_data room f l after t
+serves sends room left interrupts.TransmitterHoldingRegisterEmpty f l after (is, t) = pumps f l after t
+serves sends room left interrupts.ModemStatus f l after (is, (result, (t, same))) =
     reads offsets.MSR t.0 f after l t.1 (ap (λ (k : RingFields). k.is_paused) same)
-serves interrupts.DmaReceptionEndOfTransfer f l after t = stays f l after t
-serves interrupts.DmaTransmissionEndOfTransfer f l after t = stays f l after t
+serves sends room left interrupts.DmaReceptionEndOfTransfer f l after (is, t) = stays f l after t
+serves sends room left interrupts.DmaTransmissionEndOfTransfer f l after (is, t) = stays f l after t
 
 shows : (interrupt : Option InterruptType) → Implies (OnDriver (ShowsInterrupt interrupt) unchanged) Keeps
 shows interrupt f l after ((isr, only, saved), same) =
     reads offsets.ISR isr f after l saved.0.is (ap (λ (k : RingFields). k.is_paused) same)
 
-serves_one : Implies ServesOne Keeps
-serves_one f l after (interrupt, t) =
-    both (OnDriver (ShowsInterrupt (Some interrupt)) unchanged) (ServesInterrupt interrupt) (shows (Some interrupt)) (serves interrupt)
-    f l after t
+serves_one : (sends room left : Bool) → Implies (ServesOne sends room left) Keeps
+serves_one sends room left f l after (interrupt, t) =
+    both (OnDriver (ShowsInterrupt (Some interrupt)) unchanged) (ServesInterrupt sends room left interrupt) (shows (Some interrupt))
+    (serves sends room left interrupt) f l after t
 
-times : (n : ℕ) → Implies (RingTimes n ServesOne) Keeps
-times zero f l after t = stays f l after t
-times (suc n) f l after t = both ServesOne (RingTimes n ServesOne) serves_one (times n) f l after t
+times : (sends : Bool) (n : ℕ) (room left : Bool) → Implies (ServesTimes sends n room left) Keeps
+times sends zero room left f l after (is, t) = stays f l after t
+times sends (suc n) room left f l after (next, t) =
+    both (ServesOne sends room next) (ServesTimes sends n next left) (serves_one sends room next) (times sends n next left) f l after t
 
 stops : (end : HandleEnd) → Implies (Stops end) Keeps
 stops Idle f l after ((isr, only, idle, saved), same) =
@@ -314,21 +325,27 @@ stops Limit f l after t = stays f l after t
 pub retriggers : Implies Retriggers Keeps
 retriggers f l after (((ier, is), saved), same) = retriggered f after l ier is (ap (λ (k : RingFields). k.is_paused) same)
 
-unless_idle : (end : HandleEnd) → Implies (RetriggersUnlessIdle end) Keeps
-unless_idle Idle f l after t = stays f l after t
-unless_idle Unknown f l after t = retriggers f l after t
-unless_idle Limit f l after t = retriggers f l after t
+sends_and_retriggers : (room : Bool) → Implies (SendsAndRetriggers room) Keeps
+sends_and_retriggers room f l after t = both (SendsOnIf room) Retriggers (sends_on room) retriggers f l after t
 
-serves_up_to : (limit : ℕ) (handled : Handled) → Implies (ServesUpTo limit handled) Keeps
-serves_up_to limit handled f l after (within, t) =
-    both (RingTimes handled.served ServesOne) (Stops handled.end) (times handled.served) (stops handled.end) f l after t
+unless_idle : (room : Bool) (end : HandleEnd) → Implies (RetriggersUnlessIdle room end) Keeps
+unless_idle room Idle f l after t = stays f l after t
+unless_idle room Unknown f l after t = sends_and_retriggers room f l after t
+unless_idle room Limit f l after t = sends_and_retriggers room f l after t
+
+serves_up_to : (sends : Bool) (limit : ℕ) (handled : Handled) (room : Bool) → Implies (ServesUpTo sends limit handled room) Keeps
+serves_up_to sends limit handled room f l after (within, t) =
+    both (ServesTimes sends handled.served false room) (Stops handled.end) (times sends handled.served false room) (stops handled.end)
+    f l after t
 
 pub handles : (limit : ℕ) (handled : Handled) → Implies (Handles limit handled) Keeps
-handles limit handled f l after t =
-    both (ServesUpTo limit handled) (RetriggersUnlessIdle handled.end) (serves_up_to limit handled) (unless_idle handled.end) f l after t
+handles limit handled f l after (room, t) =
+    both (ServesUpTo true limit handled room) (RetriggersUnlessIdle room handled.end) (serves_up_to true limit handled room)
+    (unless_idle room handled.end) f l after t
 
 pub services : (count : ℕ) → Implies (Services count) Keeps
-services count f l after (end, t) = serves_up_to MAX_INTERRUPTS (record { served = count; end = end }) f l after t
+services count f l after (end, room, t) =
+    serves_up_to false MAX_INTERRUPTS (record { served = count; end = end }) room f l after t
 
 -- ---- the other calls
 

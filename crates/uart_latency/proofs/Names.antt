@@ -66,16 +66,17 @@ pub use Rattle.uart_run.specs.Ready.{Ready}
 pub use Rattle.uart_run.proofs.Latches.{Kept, kept_access, kept_step, keep, kept-before_mark, kept_after, kept_in, kept_list, kept_path}
 -- ---- the rings: their state, and the accesses of their calls
 
-pub use Rattle.uart_ring.specs.Handle.{Handles, Retriggers, RetriggersUnlessIdle}
+pub use Rattle.uart_ring.specs.Handle.{Handles, Retriggers, RetriggersUnlessIdle, SendsAndRetriggers}
 pub use Rattle.uart_ring.specs.Lossless.{Implies}
 pub use Rattle.uart_ring.specs.Receive.{rts_at, AdjustsXoff, FillsReceiveRing, MakesRtsIfAny, Obeys, ObeysXoff, TellsIfAny, flow_character}
 pub use Rattle.uart_ring.specs.Receive.{write_if_other, xon, AdjustsRts, ClearsReceive, EndsPause, PausesIfFull, TakesBytes}
-pub use Rattle.uart_ring.specs.Ring.{free, ring_fields, RingFields, RingDid, RingDoing, RingTimes, looked, with_told_xoff, IfAny, OnDriver}
+pub use Rattle.uart_ring.specs.Ring.{free, ring_fields, RingFields, RingDid, RingDoing, looked, with_told_xoff, IfAny, OnDriver}
 pub use Rattle.uart_ring.specs.Ring.{RingNext, RingSets, Stays, cleared, is_full, restarted, sendable, unchanged, with_hold, with_low}
 pub use Rattle.uart_ring.specs.Ring.{with_low_mark, with_paused, with_queued, with_received, with_rounds, with_urgent, without_sent}
 pub use Rattle.uart_ring.specs.Ring.{without_taken}
-pub use Rattle.uart_ring.specs.Service.{ServesInterrupt, ServesOne, Stops, ServesUpTo, Services, ShowsInterrupt}
-pub use Rattle.uart_ring.specs.Status.{NotesLine, TakesLine, TakesModem}
+pub use Rattle.uart_ring.specs.Service.{SendsOnIf, ServesData, ServesInterrupt, ServesLine, ServesOne}
+pub use Rattle.uart_ring.specs.Service.{ServesTimes, Stops, ServesUpTo, Services, ShowsInterrupt}
+pub use Rattle.uart_ring.specs.Status.{TakesLine, TakesModem}
 pub use Rattle.uart_ring.specs.Storm.{TriesToHandle, round_limit, CountsRound, HandlesRound, StaysStuck, counts_as, has_moved, unless_stuck}
 pub use Rattle.uart_ring.specs.Storm.{CountsUnfinished, LooksOnceMore, Restarts, not_paused}
 pub use Rattle.uart_ring.specs.Transmit.{Holds, Releases, ArmsIfLeft, ClearsTransmit, Pumps, Queues, QueuesUrgent, ResumesTransmit}

@@ -4,7 +4,7 @@ use Rattle.uart_link.proofs.Names.{◌≡◌, inl, inr, ◌≤◌, ◌+◌, ◌-
 use Rattle.uart_link.proofs.Names.{◌∷◌, ◌++◌, length, length-append, length-take, length-drop, append-nil, append_assoc, take, drop, min}
 use Rattle.uart_link.proofs.Names.{Option, Some, None, Result, refl, sym, ◌∙◌, ap, subst, arith, common_steps, drop-append-le, MatchOption}
 use Rattle.uart_link.proofs.Names.{option_to_list, Access, InterruptType, settings_of, Settings, Enables, Disables, Sends, each-append}
-use Rattle.uart_link.proofs.Names.{Queue, latest, RingDoing, RingFields, OnDriver, Stays, RingTimes, IfAny, ring_fields, free, is_full}
+use Rattle.uart_link.proofs.Names.{Queue, latest, RingDoing, RingFields, OnDriver, Stays, IfAny, ring_fields, free, is_full}
 use Rattle.uart_link.proofs.Names.{sendable, allowed, urgent_left, with_driver, with_queued, with_received, with_hold, with_urgent}
 use Rattle.uart_link.proofs.Names.{with_told_xoff, without_taken, looked, with_rounds, with_paused, RingSets, cleared, Implies, Pumps}
 use Rattle.uart_link.proofs.Names.{ResumesTransmit, Holds, Releases, PausesIfFull, FillsReceiveRing, EndsPause, MakesRtsIfAny, rts_at}
@@ -14,8 +14,8 @@ use Rattle.uart_link.proofs.Names.{CabledCallStep, xoff_hold_of, urged_by, MayTe
 use Rattle.uart_spec.specs.declared.registers.interrupt_enable.TheConstants.IER
 use Rattle.uart_spec.specs.declared.registers.interrupt_type.InterruptType.TheVariants as interrupts
 use Rattle.uart_ring.specs.Ring.{waiting}
-use Rattle.uart_ring.specs.Service.{ServesInterrupt, ServesOne, Stops, ServesUpTo, Services}
-use Rattle.uart_ring.specs.Handle.{RetriggersUnlessIdle, Handles}
+use Rattle.uart_ring.specs.Service.{SendsOnIf, ServesData, ServesInterrupt, ServesOne, ServesTimes, Stops, ServesUpTo, Services}
+use Rattle.uart_ring.specs.Handle.{RetriggersUnlessIdle, Handles, SendsAndRetriggers}
 use Rattle.uart_ring.specs.Storm.{LooksOnceMore, CountsUnfinished, CountsRound, HandlesRound, StaysStuck, TriesToHandle, counts_as}
 use Rattle.uart_ring.specs.Storm.{Restarts}
 use Rattle.uart_ring.specs.Storm.{has_moved, round_limit}
@@ -172,42 +172,55 @@ receives bytes f after same = record {
 fills : Implies FillsReceiveRing Keeping
 fills f l after (bytes, t) = keeps-then f t.mid after (receives bytes f t.mid t.first.1) (pauses t.mid t.back after t.second)
 
-serves : (interrupt : InterruptType) → Implies (ServesInterrupt interrupt) Keeping
-serves interrupts.ReceiverLineStatus f l after (status, t) = alike f _ after t.1 refl refl refl refl refl refl
-serves interrupts.ReceivedDataReady f l after t = fills f l after t
-serves interrupts.ReceptionTimeout f l after t = fills f l after t
-serves interrupts.TransmitterHoldingRegisterEmpty f l after t = pumps f l after t
-serves interrupts.ModemStatus f l after (status, t) = alike f _ after t.1 refl refl refl refl refl refl
-serves interrupts.DmaReceptionEndOfTransfer f l after t = stays f l after t
-serves interrupts.DmaTransmissionEndOfTransfer f l after t = stays f l after t
+sends_on : (room : Bool) → Implies (SendsOnIf room) Keeping
+sends_on true f l after (zero, t) = alike f _ after t.1 refl refl refl refl refl refl
+sends_on true f l after (suc n, t) = pumps f l after (suc n, t)
+sends_on false f l after t = stays f l after t
 
-serves_one : Implies ServesOne Keeping
-serves_one f l after (interrupt, t) =
-    keeps-then f t.mid after (alike f _ t.mid t.first.1 refl refl refl refl refl refl) (serves interrupt t.mid t.back after t.second)
+serves_data : (room : Bool) → Implies (ServesData room) Keeping
+serves_data room f l after t = keeps-then f t.mid after (fills f t.front t.mid t.first) (sends_on room t.mid t.back after t.second)
 
-times : (n : ℕ) → Implies (RingTimes n ServesOne) Keeping
-times zero f l after t = stays f l after t
-times (suc n) f l after t =
-    keeps-then f t.mid after (serves_one f t.front t.mid t.first) (times n t.mid t.back after t.second)
+serves : (sends room left : Bool) (interrupt : InterruptType) → Implies (ServesInterrupt sends room left interrupt) Keeping
+serves sends room left interrupts.ReceiverLineStatus f l after (status, told, t) = alike f _ after t.1 refl refl refl refl refl refl
+serves sends room left interrupts.ReceivedDataReady f l after (is, t) = serves_data room f l after t
+serves sends room left interrupts.ReceptionTimeout f l after (is, t) = serves_data room f l after t
+serves sends room left interrupts.TransmitterHoldingRegisterEmpty f l after (is, t) = pumps f l after t
+serves sends room left interrupts.ModemStatus f l after (is, (status, t)) = alike f _ after t.1 refl refl refl refl refl refl
+serves sends room left interrupts.DmaReceptionEndOfTransfer f l after (is, t) = stays f l after t
+serves sends room left interrupts.DmaTransmissionEndOfTransfer f l after (is, t) = stays f l after t
+
+serves_one : (sends room left : Bool) → Implies (ServesOne sends room left) Keeping
+serves_one sends room left f l after (interrupt, t) =
+    keeps-then f t.mid after (alike f _ t.mid t.first.1 refl refl refl refl refl refl)
+    (serves sends room left interrupt t.mid t.back after t.second)
+
+times : (sends : Bool) (n : ℕ) (room left : Bool) → Implies (ServesTimes sends n room left) Keeping
+times sends zero room left f l after (is, t) = stays f l after t
+times sends (suc n) room left f l after (next, t) =
+    keeps-then f t.mid after (serves_one sends room next f t.front t.mid t.first) (times sends n next left t.mid t.back after t.second)
 
 stops : (end : HandleEnd) → Implies (Stops end) Keeping
 stops Idle f l after t = alike f _ after t.1 refl refl refl refl refl refl
 stops Unknown f l after t = alike f _ after t.1 refl refl refl refl refl refl
 stops Limit f l after t = stays f l after t
 
-serves_up_to : (limit : ℕ) (handled : Handled) → Implies (ServesUpTo limit handled) Keeping
-serves_up_to limit handled f l after (within, t) =
-    keeps-then f t.mid after (times handled.served f t.front t.mid t.first) (stops handled.end t.mid t.back after t.second)
+serves_up_to : (sends : Bool) (limit : ℕ) (handled : Handled) (room : Bool) → Implies (ServesUpTo sends limit handled room) Keeping
+serves_up_to sends limit handled room f l after (within, t) =
+    keeps-then f t.mid after (times sends handled.served false room f t.front t.mid t.first) (stops handled.end t.mid t.back after t.second)
 
-unless_idle : (end : HandleEnd) → Implies (RetriggersUnlessIdle end) Keeping
-unless_idle Idle f l after t = stays f l after t
-unless_idle Unknown f l after t = alike f _ after t.1 refl refl refl refl refl refl
-unless_idle Limit f l after t = alike f _ after t.1 refl refl refl refl refl refl
+sends_and_retriggers : (room : Bool) → Implies (SendsAndRetriggers room) Keeping
+sends_and_retriggers room f l after t =
+    keeps-then f t.mid after (sends_on room f t.front t.mid t.first) (alike t.mid _ after t.second.1 refl refl refl refl refl refl)
+
+unless_idle : (room : Bool) (end : HandleEnd) → Implies (RetriggersUnlessIdle room end) Keeping
+unless_idle room Idle f l after t = stays f l after t
+unless_idle room Unknown f l after t = sends_and_retriggers room f l after t
+unless_idle room Limit f l after t = sends_and_retriggers room f l after t
 
 pub handles : (limit : ℕ) (handled : Handled) → Implies (Handles limit handled) Keeping
-handles limit handled f l after t =
-    keeps-then f t.mid after (serves_up_to limit handled f t.front t.mid t.first)
-    (unless_idle handled.end t.mid t.back after t.second)
+handles limit handled f l after (room, t) =
+    keeps-then f t.mid after (serves_up_to true limit handled room f t.front t.mid t.first)
+    (unless_idle room handled.end t.mid t.back after t.second)
 
 looks : (found : Option StuckError) → Implies (LooksOnceMore found) Keeping
 looks None f l after t = alike f _ after t.1 refl refl refl refl refl refl
@@ -249,7 +262,7 @@ pub adjusts_rts : (marks : ReceiveMarks) → Implies (AdjustsRts marks) Keeping
 adjusts_rts marks f l after t = makes_rts (rts_at marks (free f.receive)) f l after t
 
 pub services : (count : ℕ) → Implies (Services count) Keeping
-services count f l after (end, t) = serves_up_to MAX_INTERRUPTS (record { served = count; end = end }) f l after t
+services count f l after (end, room, t) = serves_up_to false MAX_INTERRUPTS (record { served = count; end = end }) room f l after t
 
 pub restarts : (bits : ℕ) → Implies (Restarts bits) Keeping
 restarts bits f l after t =

@@ -96,7 +96,7 @@ pub use Rattle.uart_ring.specs.Receive.{AdjustsRts, EndsPause, MakesRtsIfAny, Te
 pub use Rattle.uart_ring.specs.Receive.{AdjustsXoff, FillsReceiveRing, Obeys, ObeysXoff, PausesIfFull, held_as_told, last_told, to_tell}
 pub use Rattle.uart_ring.specs.Receive.{write_if_other}
 pub use Rattle.uart_ring.specs.Ring.{ring_fields, RingFields, IfAny, sendable, without_taken, OnDriver, RingDoing, Stays, free, with_paused}
-pub use Rattle.uart_ring.specs.Ring.{with_queued, with_told_xoff, with_urgent, RingDid, RingSets, RingTimes, allowed, cleared, is_full}
+pub use Rattle.uart_ring.specs.Ring.{with_queued, with_told_xoff, with_urgent, RingDid, RingSets, allowed, cleared, is_full}
 pub use Rattle.uart_ring.specs.Ring.{looked, urgent_left, with_driver, with_hold, with_received, with_rounds}
 pub use Rattle.uart_ring.specs.Transmit.{Pumps, ResumesTransmit, Holds, Releases}
 pub use Rattle.uart_ring.specs.declared.ring.receive.ReceiveMarks.{ReceiveMarks}

@@ -6,3 +6,4 @@ pub mod Saved
 pub mod Refused
 pub mod Ring
 pub mod Quick
+pub mod Outputs

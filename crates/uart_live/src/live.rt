@@ -10,6 +10,7 @@ ghost use Rattle.uart_chip.specs.Transmitter.{held};
 ghost use Rattle.uart_live.specs.declared.errors.ChipError.{ChipError};
 ghost use Rattle.uart_live.specs.declared.errors.InputError.{InputError};
 ghost use Rattle.uart_live.specs.Live.{IsLive};
+ghost use Rattle.uart_live.specs.Outputs.{outputs};
 ghost use Rattle.uart_live.specs.Held.{arrive_holding, expire};
 ghost use Rattle.uart_live.specs.Quick.{clear_status, passed, when_due};
 ghost use Rattle.uart_live.specs.Refused.{refusal};
@@ -34,11 +35,11 @@ use uart_chip::receiving::{ReceiverParts, take_front};
 use uart_chip::transmitting::TransmitterParts;
 use uart_chip::{Character, NoCapabilities, Origin, Uart, room_of};
 use uart_events::{Chip, MAX_CHAR_TICKS};
-use uart_spec::registers::{IER, LCR, LSR, MSR, offsets};
+use uart_spec::registers::{IER, LCR, LSR, MCR, MSR, offsets};
 use uart_spec::{FIFO_SIZE, FifoSize};
 
 // A chip all of whose memory is in arrays, without a schedule. So no call can be refused memory.
-// The wire has room for 64 bytes, as in the library for C: its owner takes them after each `ticks`.
+// The wire has room for 64 bytes, as in the port in C: its owner takes them after each `ticks`.
 // It is a 16550A or a 16450, which have neither automatic flow control nor a switch of their size.
 type LiveUart<const FIFO: usize> = Uart<
     FixedFifo<u8, FIFO>,
@@ -609,6 +610,27 @@ impl<const FIFO: usize> LiveChipWith<FIFO> {
         ensures { result ≡ spec.is_dlab_set self.now.latches }
     {
         self.uart.is_dlab_set()
+    }
+
+    /// Returns the outputs of the guest as the lines have them: those of DTR, RTS, OUT1 and OUT2
+    /// that are on, and no other bit. In loopback all are off.
+    ///
+    /// # Examples
+    ///
+    /// ```
+    /// let is_driving = chip.outputs().contains(MCR::RTS);
+    /// ```
+    pub fn outputs(&self) -> MCR
+        ensures { result.0 ≡ outputs self.now.latches }
+    {
+        if self.uart.is_loopback() {
+            return MCR::from_bits_retain(0);
+        }
+        let outputs = MCR::DTR
+            .union(MCR::RTS)
+            .union(MCR::OUT_1)
+            .union(MCR::OUT_2_INT_ENABLE);
+        self.uart.mcr().intersection(outputs)
     }
 
     /// Returns whether the guest sends a break: LCR bit 6 is set, and a line would be at 0 as long.

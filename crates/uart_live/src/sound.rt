@@ -4,7 +4,7 @@
 //! Data are typed (a trigger level, an optional character in the shift register, registers), so
 //! that less of them can be wrong. The wire comes beside the data: its owner has it already.
 //!
-//! The tests of small parts are public: the library for C uses them for its own structs.
+//! The tests of small parts are public: the port in C uses them for its own structs.
 ghost use Rattle.std.specs.Prelude.{◌≡◌, true, false};
 ghost use Rattle.std.specs.List.{list_all};
 ghost use Rattle.uart_chip.specs.Chip.{with_size};

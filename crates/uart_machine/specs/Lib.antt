@@ -2,7 +2,7 @@ pub use Rattle.uart_play.specs.ScriptOutput
 pub use Rattle.uart_play.specs.Play
 pub use Rattle.uart_play.specs.OneOutcome
 pub use Rattle.uart_events.specs.Build
-pub use Rattle.uart_events.specs.Calls
+pub use Rattle.uart_call.specs.Calls
 pub use Rattle.uart_run.specs.Chains
 pub use Rattle.uart_chip.specs.Chip
 pub use Rattle.uart_chip.specs.Conserved

@@ -8,11 +8,11 @@ use Rattle.uart_16550.specs.Tty.{inner_of}
 use Rattle.uart_16550.specs.declared.driver.Uart16550.{Uart16550}
 use Rattle.uart_16550.proofs.determined.Repeated.{same_first, same_others}
 use Rattle.uart_16550.proofs.determined.Backends.{one_outcome}
-use Rattle.uart_events.specs.declared.call.Call.{Call}
-use Rattle.uart_events.specs.declared.call.Call.TheVariants as call
-use Rattle.uart_events.specs.declared.call.Answer.{Answer}
+use Rattle.uart_call.specs.declared.call.Call.{Call}
+use Rattle.uart_call.specs.declared.call.Call.TheVariants as call
+use Rattle.uart_call.specs.declared.call.Answer.{Answer}
 use Rattle.uart_chip.specs.Machine.{MachineState, MachineStep, at_mark}
-use Rattle.uart_events.specs.Calls.{IsRunnable}
+use Rattle.uart_call.specs.Calls.{IsRunnable}
 use Rattle.uart_calls.specs.Meaning.{Meaning, Called, doing_of, meaning}
 use Rattle.uart_calls.proofs.NoChoice.{meaning_leaves_no_choice}
 use Rattle.uart_run.specs.Chains.{calls_of, answers_of}

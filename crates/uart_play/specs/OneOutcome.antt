@@ -3,9 +3,9 @@ use Rattle.std.specs.Prelude.{◌≡◌, ℕ, List, All, Option, Ok}
 use Rattle.std.specs.Io.KnownBytes.{Appends}
 use Rattle.uart_16550.specs.Choice.{IsSame}
 use Rattle.uart_16550.specs.Tty.{inner_of}
-use Rattle.uart_events.specs.declared.call.Call.{Call}
-use Rattle.uart_events.specs.declared.call.Answer.{Answer}
-use Rattle.uart_events.specs.Calls.{IsRunnable}
+use Rattle.uart_call.specs.declared.call.Call.{Call}
+use Rattle.uart_call.specs.declared.call.Answer.{Answer}
+use Rattle.uart_call.specs.Calls.{IsRunnable}
 use Rattle.uart_run.specs.Run.{State, IsRun}
 use Rattle.uart_play.specs.Play.{Outcome}
 

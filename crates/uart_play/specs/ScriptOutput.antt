@@ -3,7 +3,7 @@ use Rattle.std.specs.Prelude.{◌≡◌, ℕ, true, List}
 use Rattle.uart_spec.specs.declared.config.TheConstants.Config.{DEFAULT}
 use Rattle.uart_16550.specs.Driver.{fields}
 use Rattle.uart_16550.specs.Tty.{inner_of}
-use Rattle.uart_events.specs.declared.call.Answer.{Answer}
+use Rattle.uart_call.specs.declared.call.Answer.{Answer}
 use Rattle.uart_chip.specs.Transmitter.{held}
 use Rattle.uart_chip.specs.Machine.{MachineState, fresh, cutting, sized, flowing}
 use Rattle.uart_chip.specs.Conserved.{waiting}

@@ -149,7 +149,7 @@ pub fn play<R: Input, W: Output>(
     // refused: play_always_returns_read_fault, play_always_returns_write_fault
     // promise: a refused request for memory is reported, and nothing was written
     // with: play.nothing, parse
-    // shown by: .ci/refused-memory
+    // shown by: each_request_for_memory
     // refused: uart_language/parse_wants_memory_before_faults
     // The outcome of an input, if its bytes are known.
     ensures outcome { IfSome (R.remaining reader.old)

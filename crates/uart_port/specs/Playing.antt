@@ -7,8 +7,8 @@ use Rattle.uart_16550.specs.Pio.{Ports, PortStep, IsAtPorts}
 use Rattle.uart_16550.specs.State.{fresh_fields}
 use Rattle.uart_16550.specs.Tty.{inner_of}
 use Rattle.uart_16550.specs.declared.tty.Uart16550Tty.{Uart16550Tty}
-use Rattle.uart_events.specs.declared.call.Call.{Call}
-use Rattle.uart_events.specs.declared.call.Answer.{Answer}
+use Rattle.uart_call.specs.declared.call.Call.{Call}
+use Rattle.uart_call.specs.declared.call.Answer.{Answer}
 use Rattle.uart_calls.specs.Meaning.{Performed}
 use Rattle.uart_language.specs.Output.{answer_lines}
 use Rattle.uart_port.specs.declared.ports.PortFault.{PortFault}

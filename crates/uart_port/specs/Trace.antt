@@ -6,8 +6,8 @@ use Rattle.std.specs.Option.{option_and_then}
 use Rattle.uart_spec.specs.declared.baud.TheConstants.{NUM_REGISTERS}
 use Rattle.uart_spec.specs.declared.access.Access.{Access}
 use Rattle.uart_spec.specs.declared.access.Access.TheVariants.{Read, Write}
-use Rattle.uart_events.specs.declared.call.Call.{Call}
-use Rattle.uart_events.specs.declared.call.Call.TheVariants.{Next}
+use Rattle.uart_call.specs.declared.call.Call.{Call}
+use Rattle.uart_call.specs.declared.call.Call.TheVariants.{Next}
 use Rattle.uart_language.specs.Output.{hex_byte, line}
 use Rattle.uart_port.specs.Ports.{Attempt, Made, Failed}
 use Rattle.uart_port.specs.declared.noted.NotedPorts.{NotedPorts}

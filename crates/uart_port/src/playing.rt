@@ -2,7 +2,7 @@
 
 ghost use Rattle.std.specs.Prelude.{◌≡◌, All, OnOk};
 ghost use Rattle.std.specs.Io.KnownBytes.{Appends};
-ghost use Rattle.uart_events.specs.Calls.{IsRunnable};
+ghost use Rattle.uart_call.specs.Calls.{IsRunnable};
 ghost use Rattle.uart_language.specs.Output.{answer_text, line};
 ghost use Rattle.std.specs.Int.NonZero.{non_zero_u64_get};
 ghost use Rattle.uart_16550.specs.Pio.{IsPortBase};

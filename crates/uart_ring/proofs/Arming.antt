@@ -25,7 +25,7 @@ use Rattle.uart_16550.specs.Receive.{Receives, Hit}
 use Rattle.uart_16550.specs.Transmit.{Sends, SendMiss, LinesAllow, Burst, burst_size, data_writes}
 use Rattle.uart_16550.proofs.Languages.{some_limit}
 use Rattle.uart_16550.specs.Status.{Enables}
-use Rattle.uart_ring.specs.Ring.{RingFields, OnDriver, Stays, RingNext, RingTimes, IfAny, with_queued, without_taken}
+use Rattle.uart_ring.specs.Ring.{RingFields, OnDriver, Stays, RingNext, IfAny, with_queued, without_taken, RingDoing}
 use Rattle.uart_ring.specs.Ring.{unchanged, is_full, waiting, sendable, allowed, RingSets, with_urgent, with_hold, with_low_mark, with_low}
 use Rattle.uart_ring.specs.Ring.{with_rounds, cleared, without_sent}
 use Rattle.uart_ring.specs.Transmit.{ArmsIfLeft, Pumps, Queues, ResumesTransmit, Holds, Releases, QueuesUrgent, ClearsTransmit}
@@ -41,8 +41,8 @@ use Rattle.uart_ring.specs.Storm.{LooksOnceMore, CountsUnfinished, CountsRound, 
 use Rattle.uart_ring.specs.Storm.{not_paused}
 use Rattle.uart_ring.specs.declared.ring.storm.StuckError.{StuckError}
 use Rattle.uart_ring.specs.Status.{NotesLine, NotesModem, TakesLine, TakesModem, DumpsRegisters}
-use Rattle.uart_ring.specs.Service.{ShowsInterrupt, ServesInterrupt, ServesOne, Stops, ServesUpTo, Services}
-use Rattle.uart_ring.specs.Handle.{Retriggers, RetriggersUnlessIdle, Handles}
+use Rattle.uart_ring.specs.Service.{ShowsInterrupt, ServesOne, Stops, ServesUpTo, Services, SendsOnIf, ServesData, ServesTimes}
+use Rattle.uart_ring.specs.Handle.{Retriggers, RetriggersUnlessIdle, Handles, SendsAndRetriggers}
 use Rattle.uart_ring.specs.declared.ring.service.TheConstants.{MAX_INTERRUPTS}
 use Rattle.uart_ring.specs.declared.ring.service.HandleEnd.{HandleEnd}
 use Rattle.uart_ring.specs.declared.ring.service.HandleEnd.TheVariants.{Idle, Unknown, Limit}
@@ -54,7 +54,8 @@ use Rattle.uart_ring.specs.Armed.{AllHarmless}
 use Rattle.uart_ring.specs.Armed.{Arms, ShowsCtsClear, ArmsUnlessHeld}
 use Rattle.uart_ring.proofs.RegisterBits.{and_or, and_assoc, or_and}
 use Rattle.uart_ring.proofs.Pausing.{ChangesIer, Pausing, joined_with, rid_of}
-use Rattle.uart_ring.proofs.Losses.{Carries, received_carries, shows_carry, serves_one_carries, times_carry, shows_none}
+use Rattle.uart_ring.proofs.Losses.{Carries, received_carries, fills_carry, sends_on_carries}
+use Rattle.uart_ring.proofs.Losses.{shows_carry, serves_one_carries, times_carry, shows_none}
 use Rattle.uart_ring.proofs.Losses.{serves_up_to_carries, handles_carry, enables_carry}
 use Rattle.uart_ring.proofs.Sending.{fewer_sendable, none_stuck, none_waiting, hold_none, clear_none}
 use Rattle.uart_spec.specs.declared.dump.ConfigRegisterDump.{ConfigRegisterDump}
@@ -326,9 +327,41 @@ fills_leave f l after (bytes, t) =
     rw t.whole (leaves_then f t.mid after t.front t.back (received_carries _ bytes f t.front t.mid t.first) first
     (pauses_leave t.mid t.back after t.second))
 
-notes_line_leave : Implies NotesLine LeavesArmed
-notes_line_leave f l after (status, ((read, is, shown, changed), same)) =
+notes_line_leave : (status : ℕ) → Implies (NotesLine status) LeavesArmed
+notes_line_leave status f l after ((read, is, shown, changed), same) =
     leaves_others f l after (ap sendable same) (rw is (refl, tt))
+
+-- if nothing was sent, there were only looks
+refused_others : (s : Settings) (l : List Access) → SendMiss s l → AllOtherReads l
+refused_others s l (NoCapacity, t) = rw t.is (refl, tt)
+refused_others s l (RemoteNotClearToSend, t) = go s.checks t
+  where
+    lines : (l : List Access) → LinesAllow false s l → AllOtherReads l
+    lines l (inl t) = rw t.1.is (refl, tt)
+    lines l (inr t) = rw (t.whole, t.first.is, t.second.is) (refl, (refl, tt))
+
+    go : (checks : Bool) → MatchBool checks (Then (Asks offsets.LSR LSR.THR_EMPTY.0 true) (LinesAllow false) s l) ⊥ → AllOtherReads l
+    go true t =
+        let one : AllOtherReads t.front = rw t.first.is (refl, tt) in
+        rw t.whole (others-append t.front t.back one (lines t.back t.second))
+    go false t = absurd t
+
+unsent_others : (bytes : List ℕ) (s : Settings) (l : List Access) → Sends bytes 0 s l → AllOtherReads l
+unsent_others bytes s l (inl (none, unsent, is)) = rw is tt
+unsent_others bytes s l (inr (inl (any, unsent, t))) = refused_others s l t
+unsent_others bytes s l (inr (inr (any, size, t))) =
+    let one = some_limit s.fifo s.size in absurd (omega (arith, any, size, one))
+
+sends_on_leaves : (room : Bool) → Implies (SendsOnIf room) LeavesArmed
+sends_on_leaves true f l after (zero, t) =
+    leaves_others f l after (ap sendable t.1) (unsent_others (sendable f) (settings_of f.driver) l t.0.0)
+sends_on_leaves true f l after (suc n, t) = pumps_leave f l after (suc n, t)
+sends_on_leaves false f l after t = leaves_stays f l after t
+
+serves_data_leaves : (room : Bool) → Implies (ServesData room) LeavesArmed
+serves_data_leaves room f l after t =
+    rw t.whole (leaves_then f t.mid after t.front t.back (fills_carry f t.front t.mid t.first) (fills_leave f t.front t.mid t.first)
+    (sends_on_leaves room t.mid t.back after t.second))
 
 notes_modem_leave : Implies NotesModem LeavesArmed
 notes_modem_leave f l after (status, ((read, is, shown, changed), same)) =
@@ -361,31 +394,36 @@ isr_leaves interrupt f l after other ((isr, shown, t), same) =
     live known keeps is = rw (t.0.is, silent) is
 
 -- what is served after a read of ISR that did not acknowledge it
-served : (interrupt : InterruptType) (f : RingFields) (l : List Access) (after : RingFields) →
-    (Some interrupt ≡ Some TransmitterHoldingRegisterEmpty → ⊥) →
-    Implies (ServesInterrupt interrupt) LeavesArmed →
-    RingNext (OnDriver (ShowsInterrupt (Some interrupt)) unchanged) (ServesInterrupt interrupt) f l after → LeavesArmed f l after
-served interrupt f l after other leaves t =
+served : (interrupt : InterruptType) (G : RingDoing) (f : RingFields) (l : List Access) (after : RingFields) →
+    (Some interrupt ≡ Some TransmitterHoldingRegisterEmpty → ⊥) → Implies G LeavesArmed →
+    RingNext (OnDriver (ShowsInterrupt (Some interrupt)) unchanged) G f l after → LeavesArmed f l after
+served interrupt G f l after other leaves t =
     rw t.whole (leaves_then f t.mid after t.front t.back (shows_carry _ f t.front t.mid t.first)
     (isr_leaves _ f t.front t.mid other t.first) (leaves t.mid t.back after t.second))
 
-serves_one_leaves : Implies ServesOne LeavesArmed
-serves_one_leaves f l after (ReceiverLineStatus, t) = served ReceiverLineStatus f l after (λ e. cc) notes_line_leave t
-serves_one_leaves f l after (ReceivedDataReady, t) = served ReceivedDataReady f l after (λ e. cc) fills_leave t
-serves_one_leaves f l after (ReceptionTimeout, t) = served ReceptionTimeout f l after (λ e. cc) fills_leave t
-serves_one_leaves f l after (ModemStatus, t) = served ModemStatus f l after (λ e. cc) notes_modem_leave t
-serves_one_leaves f l after (DmaReceptionEndOfTransfer, t) = served DmaReceptionEndOfTransfer f l after (λ e. cc) leaves_stays t
-serves_one_leaves f l after (DmaTransmissionEndOfTransfer, t) = served DmaTransmissionEndOfTransfer f l after (λ e. cc) leaves_stays t
-serves_one_leaves f l after (TransmitterHoldingRegisterEmpty, t) = λ off known keeps armed.
+serves_one_leaves : (sends room left : Bool) → Implies (ServesOne sends room left) LeavesArmed
+serves_one_leaves sends room left f l after (ReceiverLineStatus, t) =
+    served ReceiverLineStatus _ f l after (λ e. cc) (λ f l after t. notes_line_leave t.0 f l after t.2) t
+serves_one_leaves sends room left f l after (ReceivedDataReady, t) =
+    served ReceivedDataReady _ f l after (λ e. cc) (λ f l after t. serves_data_leaves room f l after t.1) t
+serves_one_leaves sends room left f l after (ReceptionTimeout, t) =
+    served ReceptionTimeout _ f l after (λ e. cc) (λ f l after t. serves_data_leaves room f l after t.1) t
+serves_one_leaves sends room left f l after (ModemStatus, t) =
+    served ModemStatus _ f l after (λ e. cc) (λ f l after t. notes_modem_leave f l after t.1) t
+serves_one_leaves sends room left f l after (DmaReceptionEndOfTransfer, t) =
+    served DmaReceptionEndOfTransfer _ f l after (λ e. cc) (λ f l after t. leaves_stays f l after t.1) t
+serves_one_leaves sends room left f l after (DmaTransmissionEndOfTransfer, t) =
+    served DmaTransmissionEndOfTransfer _ f l after (λ e. cc) (λ f l after t. leaves_stays f l after t.1) t
+serves_one_leaves sends room left f l after (TransmitterHoldingRegisterEmpty, t) = λ off known keeps armed.
     rw (t.whole, after-append known t.front t.back)
-    (pumps_arm t.mid t.back after t.second (unchecked f t.front t.mid (shows_carry _ f t.front t.mid t.first) off)
+    (pumps_arm t.mid t.back after t.second.1 (unchecked f t.front t.mid (shows_carry _ f t.front t.mid t.first) off)
     (known_after_all known t.front))
 
-times_leave : (n : ℕ) → Implies (RingTimes n ServesOne) LeavesArmed
-times_leave zero f l after t = leaves_stays f l after t
-times_leave (suc n) f l after t =
-    rw t.whole (leaves_then f t.mid after t.front t.back (serves_one_carries f t.front t.mid t.first)
-    (serves_one_leaves f t.front t.mid t.first) (times_leave n t.mid t.back after t.second))
+times_leave : (sends : Bool) (n : ℕ) (room left : Bool) → Implies (ServesTimes sends n room left) LeavesArmed
+times_leave sends zero room left f l after (is, t) = leaves_stays f l after t
+times_leave sends (suc n) room left f l after (next, t) =
+    rw t.whole (leaves_then f t.mid after t.front t.back (serves_one_carries sends room next f t.front t.mid t.first)
+    (serves_one_leaves sends room next f t.front t.mid t.first) (times_leave sends n next left t.mid t.back after t.second))
 
 -- ---- each call
 
@@ -394,14 +432,15 @@ stops_leave Idle f l after t = isr_leaves None f l after (λ e. cc) (shows_none 
 stops_leave Unknown f l after t = isr_leaves None f l after (λ e. cc) (shows_none false f l after t)
 stops_leave Limit f l after t = leaves_stays f l after t
 
-serves_up_to_leaves : (limit : ℕ) (handled : Handled) → Implies (ServesUpTo limit handled) LeavesArmed
-serves_up_to_leaves limit handled f l after (within, t) =
-    rw t.whole (leaves_then f t.mid after t.front t.back (times_carry handled.served f t.front t.mid t.first)
-    (times_leave handled.served f t.front t.mid t.first) (stops_leave handled.end t.mid t.back after t.second))
+serves_up_to_leaves : (sends : Bool) (limit : ℕ) (handled : Handled) (room : Bool) →
+    Implies (ServesUpTo sends limit handled room) LeavesArmed
+serves_up_to_leaves sends limit handled room f l after (within, t) =
+    rw t.whole (leaves_then f t.mid after t.front t.back (times_carry sends handled.served false room f t.front t.mid t.first)
+    (times_leave sends handled.served false room f t.front t.mid t.first) (stops_leave handled.end t.mid t.back after t.second))
 
 pub services_leave : (count : ℕ) → Implies (Services count) LeavesArmed
-services_leave count f l after (end, t) =
-    serves_up_to_leaves MAX_INTERRUPTS (record { served = count; end = end }) f l after t
+services_leave count f l after (end, room, t) =
+    serves_up_to_leaves false MAX_INTERRUPTS (record { served = count; end = end }) room f l after t
 
 -- IER is as it was
 pub retriggers_leave : Implies Retriggers LeavesArmed
@@ -413,15 +452,21 @@ retriggers_leave f l after (((ier, is), saved), same) =
         let true_of : KeepsIer known (status.retrigger_accesses ier) = rw is at keeps in
         rw is (true_of.0 refl was.0, was.1)
 
-unless_idle_leave : (end : HandleEnd) → Implies (RetriggersUnlessIdle end) LeavesArmed
-unless_idle_leave Idle f l after t = leaves_stays f l after t
-unless_idle_leave Unknown f l after t = retriggers_leave f l after t
-unless_idle_leave Limit f l after t = retriggers_leave f l after t
+sends_and_retriggers_leave : (room : Bool) → Implies (SendsAndRetriggers room) LeavesArmed
+sends_and_retriggers_leave room f l after t =
+    rw t.whole (leaves_then f t.mid after t.front t.back (sends_on_carries room f t.front t.mid t.first)
+    (sends_on_leaves room f t.front t.mid t.first) (retriggers_leave t.mid t.back after t.second))
+
+unless_idle_leave : (room : Bool) (end : HandleEnd) → Implies (RetriggersUnlessIdle room end) LeavesArmed
+unless_idle_leave room Idle f l after t = leaves_stays f l after t
+unless_idle_leave room Unknown f l after t = sends_and_retriggers_leave room f l after t
+unless_idle_leave room Limit f l after t = sends_and_retriggers_leave room f l after t
 
 pub handles_leave : (limit : ℕ) (handled : Handled) → Implies (Handles limit handled) LeavesArmed
-handles_leave limit handled f l after t =
-    rw t.whole (leaves_then f t.mid after t.front t.back (serves_up_to_carries limit handled f t.front t.mid t.first)
-    (serves_up_to_leaves limit handled f t.front t.mid t.first) (unless_idle_leave handled.end t.mid t.back after t.second))
+handles_leave limit handled f l after (room, t) =
+    rw t.whole (leaves_then f t.mid after t.front t.back (serves_up_to_carries true limit handled room f t.front t.mid t.first)
+    (serves_up_to_leaves true limit handled room f t.front t.mid t.first)
+    (unless_idle_leave room handled.end t.mid t.back after t.second))
 
 any_pumps_arm : (count : ℕ) (f : RingFields) (l : List Access) (after : RingFields) → 0 < count → IfAny count Pumps f l after →
     Arms f l after

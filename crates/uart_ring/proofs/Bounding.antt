@@ -21,7 +21,7 @@ use Rattle.uart_16550.specs.Grammar.{Settings, Then, Asks, InOrder}
 use Rattle.uart_16550.specs.Driver.{Fields, settings_of}
 use Rattle.uart_16550.specs.Receive.{Receives, Hit}
 use Rattle.uart_16550.specs.Transmit.{Sends, SendHit, SendMiss, LinesAllow, data_writes}
-use Rattle.uart_ring.specs.Ring.{RingFields, RingTimes, IfAny, with_queued, without_taken}
+use Rattle.uart_ring.specs.Ring.{RingFields, IfAny, with_queued, without_taken, RingDoing}
 use Rattle.uart_ring.specs.Ring.{free, is_full, waiting, sendable, without_sent, with_hold, with_urgent, with_rounds, RingSets}
 use Rattle.uart_ring.specs.Transmit.{ArmsIfLeft, Pumps, Queues, ResumesTransmit, Holds, Releases, QueuesUrgent, ClearsTransmit}
 use Rattle.uart_ring.specs.Transmit.{SetsLowMark, TakesLow}
@@ -37,15 +37,15 @@ use Rattle.uart_ring.specs.Storm.{Restarts}
 use Rattle.uart_ring.specs.Storm.{not_paused}
 use Rattle.uart_ring.specs.declared.ring.storm.StuckError.{StuckError}
 use Rattle.uart_ring.specs.Status.{TakesLine, TakesModem, DumpsRegisters}
-use Rattle.uart_ring.specs.Service.{ServesInterrupt, ServesOne, Stops, IsWithin, ServesUpTo, Services}
-use Rattle.uart_ring.specs.Handle.{Retriggers, RetriggersUnlessIdle, Handles}
+use Rattle.uart_ring.specs.Service.{ServesInterrupt, ServesOne, Stops, IsWithin, ServesUpTo, Services, SendsOnIf, ServesData, ServesTimes}
+use Rattle.uart_ring.specs.Handle.{Retriggers, RetriggersUnlessIdle, Handles, SendsAndRetriggers}
 use Rattle.uart_ring.specs.declared.ring.service.TheConstants.{MAX_INTERRUPTS}
 use Rattle.uart_ring.specs.declared.ring.service.HandleEnd.{HandleEnd}
 use Rattle.uart_ring.specs.declared.ring.service.HandleEnd.TheVariants.{Idle, Unknown, Limit}
 use Rattle.uart_ring.specs.declared.ring.service.Handled.{Handled}
 use Rattle.uart_ring.specs.Lossless.{Implies}
 use Rattle.uart_16550.proofs.Languages.{at_least_sixteen, limit_within}
-use Rattle.uart_ring.proofs.Losses.{Carries, shows_carry, serves_one_carries, times_carry, enables_carry}
+use Rattle.uart_ring.proofs.Losses.{Carries, fills_carry, shows_carry, serves_one_carries, times_carry, serves_up_to_carries, enables_carry}
 use Rattle.uart_ring.proofs.Pausing.{ChangesIer, Pausing, joined_with, rid_of}
 use Rattle.uart_ring.specs.Bounded.{MakesAtMost, MakesAtMostBySize}
 use Rattle.uart_ring.specs.Bounded.{most_of_change, most_of_pump, most_of_receiving, most_of_service, most_of_dump}
@@ -166,21 +166,73 @@ fills_size f l after (bytes, t) =
     ) in
     both l t.front t.back (2 * size) most_of_change t.whole most (pauses_size t.mid t.back after t.second)
 
-serves_size : (interrupt : InterruptType) → Implies (ServesInterrupt interrupt) (MakesAtMostBySize most_of_receiving)
-serves_size ReceiverLineStatus f l after (status, ((read, is, shown, changed), same)) = omega (arith, ap length is)
-serves_size ReceivedDataReady f l after t = fills_size f l after t
-serves_size ReceptionTimeout f l after t = fills_size f l after t
-serves_size TransmitterHoldingRegisterEmpty f l after t = omega (arith, pumps_size f l after t, at_least_sixteen f.driver.size)
-serves_size ModemStatus f l after (status, ((read, is, shown, changed), same)) = omega (arith, ap length is)
-serves_size DmaReceptionEndOfTransfer f l after t = omega (arith, ap length t.0)
-serves_size DmaTransmissionEndOfTransfer f l after t = omega (arith, ap length t.0)
+sends_on_size : (room : Bool) → Implies (SendsOnIf room) (MakesAtMostBySize most_of_pump)
+sends_on_size true f l after (zero, t) = omega (arith, sends_size (sendable f) 0 (settings_of f.driver) l t.0.0)
+sends_on_size true f l after (suc n, t) = pumps_size f l after (suc n, t)
+sends_on_size false f l after t = omega (arith, ap length t.0)
 
-serves_one_size : Implies ServesOne (MakesAtMostBySize (λ size. 1 + most_of_receiving size))
-serves_one_size f l after (interrupt, t) =
+-- What a line status leaves over is enough for what is sent behind it later. So what is still to be sent counts as
+-- made: as many accesses as a pump makes, if a line status has shown room.
+abbrev most_owed : Bool → FifoSize → ℕ
+most_owed true size = most_of_pump size
+most_owed false size = 0
+
+sends_on_owed : (room : Bool) → Implies (SendsOnIf room) (MakesAtMostBySize (most_owed room))
+sends_on_owed true f l after t = sends_on_size true f l after t
+sends_on_owed false f l after t = omega (arith, ap length t.0)
+
+none_owed : (left : Bool) (size : FifoSize) → left ≡ false → most_owed left size ≡ 0
+none_owed left size is = ap (λ b. most_owed b size) is
+
+owed_most : (room : Bool) (size : FifoSize) → most_owed room size ≤ most_of_pump size
+owed_most true size = omega arith
+owed_most false size = omega arith
+
+-- this number, and what was owed before, with what is owed then, or fewer
+abbrev MakesAtMostOwing : (FifoSize → ℕ) → (room left : Bool) → RingDoing
+MakesAtMostOwing most room left f l after = length l + most_owed left f.driver.size ≤ most f.driver.size + most_owed room f.driver.size
+
+serves_data_size : (room left : Bool) → left ≡ false → Implies (ServesData room) (MakesAtMostOwing most_of_receiving room left)
+serves_data_size room left is f l after t =
+    let same = size_kept f t.mid t.front (fills_carry f t.front t.mid t.first) in
+    let sent = at_size (most_owed room) t.back same (sends_on_owed room t.mid t.back after t.second) in
+    omega (
+      arith,
+      none_owed left f.driver.size is,
+      fills_size f t.front t.mid t.first,
+      sent,
+      ap length t.whole,
+      length-append t.front t.back,
+    )
+
+serves_size : (sends room left : Bool) (interrupt : InterruptType) →
+    Implies (ServesInterrupt sends room left interrupt) (MakesAtMostOwing most_of_receiving room left)
+serves_size sends room left ReceiverLineStatus f l after (status, told, ((read, is, shown, changed), same)) =
+    omega (arith, ap length is, owed_most left f.driver.size, at_least_sixteen f.driver.size)
+serves_size sends room left ReceivedDataReady f l after (is, t) = serves_data_size room left is f l after t
+serves_size sends room left ReceptionTimeout f l after (is, t) = serves_data_size room left is f l after t
+serves_size sends room left TransmitterHoldingRegisterEmpty f l after (is, t) =
+    omega (arith, none_owed left f.driver.size is, pumps_size f l after t, at_least_sixteen f.driver.size)
+serves_size sends room left ModemStatus f l after (kept, (status, ((read, is, shown, changed), same))) =
+    omega (arith, ap (λ b. most_owed b f.driver.size) kept, ap length is)
+serves_size sends room left DmaReceptionEndOfTransfer f l after (is, t) =
+    omega (arith, ap (λ b. most_owed b f.driver.size) is, ap length t.0)
+serves_size sends room left DmaTransmissionEndOfTransfer f l after (is, t) =
+    omega (arith, ap (λ b. most_owed b f.driver.size) is, ap length t.0)
+
+-- so many, by one size and by the same
+owed_at : {size other : FifoSize} (most : FifoSize → ℕ) (room left : Bool) (n : ℕ) → other ≡ size →
+    n + most_owed left other ≤ most other + most_owed room other → n + most_owed left size ≤ most size + most_owed room size
+owed_at most room left n same few = let L : FifoSize → Type 0 = λ x. n + most_owed left x ≤ most x + most_owed room x in subst L same few
+
+serves_one_size : (sends room left : Bool) →
+    Implies (ServesOne sends room left) (MakesAtMostOwing (λ size. 1 + most_of_receiving size) room left)
+serves_one_size sends room left f l after (interrupt, t) =
     let read : length t.front ≤ 1 = omega (arith, ap length t.first.0.2.0.is) in
     let same = size_kept f t.mid t.front (shows_carry (Some interrupt) f t.front t.mid t.first) in
-    both l t.front t.back 1 (most_of_receiving f.driver.size) t.whole read
-    (at_size most_of_receiving t.back same (serves_size interrupt t.mid t.back after t.second))
+    let rest = owed_at most_of_receiving room left (length t.back) same (serves_size sends room left interrupt t.mid t.back
+    after t.second) in
+    omega (arith, read, rest, ap length t.whole, length-append t.front t.back)
 
 -- one interrupt more, and those that are left up to the limit
 one_more : (size : FifoSize) (n : ℕ) →
@@ -197,17 +249,19 @@ one_left : (size : FifoSize) (limit served : ℕ) → served < limit → 1 ≤ (
 one_left Sixteen limit served few = omega (arith, few)
 one_left _ limit served few = omega (arith, few)
 
-times_size : (n : ℕ) → Implies (RingTimes n ServesOne) (MakesAtMostBySize (λ size. n * (1 + most_of_receiving size)))
-times_size zero f l after t = omega (arith, ap length t.0)
-times_size (suc n) f l after t =
-    let same = size_kept f t.mid t.front (serves_one_carries f t.front t.mid t.first) in
+times_size : (sends : Bool) (n : ℕ) (room left : Bool) →
+    Implies (ServesTimes sends n room left) (MakesAtMostOwing (λ size. n * (1 + most_of_receiving size)) room left)
+times_size sends zero room left f l after (is, t) = omega (arith, ap (λ b. most_owed b f.driver.size) is, ap length t.0)
+times_size sends (suc n) room left f l after (next, t) =
+    let same = size_kept f t.mid t.front (serves_one_carries sends room next f t.front t.mid t.first) in
     omega (
       arith,
       one_more f.driver.size n,
       ap length t.whole,
       length-append t.front t.back,
-      serves_one_size f t.front t.mid t.first,
-      at_size (λ size. n * (1 + most_of_receiving size)) t.back same (times_size n t.mid t.back after t.second),
+      serves_one_size sends room next f t.front t.mid t.first,
+      owed_at (λ size. n * (1 + most_of_receiving size)) next left (length t.back) same
+          (times_size sends n next left t.mid t.back after t.second),
     )
 
 -- ---- each call
@@ -225,36 +279,46 @@ within_limit : (limit served : ℕ) (end : HandleEnd) → IsWithin limit served 
 within_limit limit served Idle within = omega (arith, within)
 within_limit limit served _ within = omega (arith, within)
 
-serves_up_to_size : (limit : ℕ) (handled : Handled) →
-    Implies (ServesUpTo limit handled) (MakesAtMostBySize (λ size. limit * (1 + most_of_receiving size)))
-serves_up_to_size limit handled f l after (within, t) =
-    let same = size_kept f t.mid t.front (times_carry handled.served f t.front t.mid t.first) in
+serves_up_to_size : (sends : Bool) (limit : ℕ) (handled : Handled) (room : Bool) → (f : RingFields) (l : List Access) (after : RingFields) →
+    ServesUpTo sends limit handled room f l after → length l + most_owed room f.driver.size ≤ limit * (1 + most_of_receiving f.driver.size)
+serves_up_to_size sends limit handled room f l after (within, t) =
+    let same = size_kept f t.mid t.front (times_carry sends handled.served false room f t.front t.mid t.first) in
     omega (
       arith,
       up_to f.driver.size limit handled.served (within_limit limit handled.served handled.end within),
       ap length t.whole,
       length-append t.front t.back,
-      times_size handled.served f t.front t.mid t.first,
+      times_size sends handled.served false room f t.front t.mid t.first,
       at_size (λ size. (limit - handled.served) * (1 + most_of_receiving size)) t.back same
           (stops_size limit handled.served handled.end within t.mid t.back after t.second),
     )
 
 pub services_size : (count : ℕ) → Implies (Services count) (MakesAtMostBySize most_of_service)
-services_size count f l after (end, t) = serves_up_to_size MAX_INTERRUPTS (record { served = count; end = end }) f l after t
+services_size count f l after (end, room, t) =
+    let most = serves_up_to_size false MAX_INTERRUPTS (record { served = count; end = end }) room f l after t in omega (arith, most)
 
 pub retriggers_size : Implies Retriggers (MakesAtMost most_of_retrigger)
 retriggers_size f l after (((ier, is), saved), same) = omega (arith, ap length is)
 
-unless_idle_size : (end : HandleEnd) → Implies (RetriggersUnlessIdle end) (MakesAtMost most_of_retrigger)
-unless_idle_size Idle f l after t = omega (arith, ap length t.0)
-unless_idle_size Unknown f l after t = retriggers_size f l after t
-unless_idle_size Limit f l after t = retriggers_size f l after t
+sends_and_retriggers_size : (room : Bool) → Implies (SendsAndRetriggers room) (MakesAtMostBySize (λ size. most_owed room size +
+    most_of_retrigger))
+sends_and_retriggers_size room f l after t =
+    both l t.front t.back (most_owed room f.driver.size) most_of_retrigger t.whole (sends_on_owed room f t.front t.mid t.first)
+    (retriggers_size t.mid t.back after t.second)
+
+unless_idle_size : (room : Bool) (end : HandleEnd) →
+    Implies (RetriggersUnlessIdle room end) (MakesAtMostBySize (λ size. most_owed room size + most_of_retrigger))
+unless_idle_size room Idle f l after t = omega (arith, ap length t.0)
+unless_idle_size room Unknown f l after t = sends_and_retriggers_size room f l after t
+unless_idle_size room Limit f l after t = sends_and_retriggers_size room f l after t
 
 pub handles_size : (limit : ℕ) (handled : Handled) → Implies (Handles limit handled) (MakesAtMostBySize (most_of_handle limit))
-handles_size limit handled f l after t =
-    both l t.front t.back (limit * (1 + most_of_receiving f.driver.size)) most_of_retrigger t.whole
-    (serves_up_to_size limit handled f t.front t.mid t.first)
-    (unless_idle_size handled.end t.mid t.back after t.second)
+handles_size limit handled f l after (room, t) =
+    let same = size_kept f t.mid t.front (serves_up_to_carries true limit handled room f t.front t.mid t.first) in
+    let served = serves_up_to_size true limit handled room f t.front t.mid t.first in
+    let rest = at_size (λ size. most_owed room size + most_of_retrigger) t.back same
+    (unless_idle_size room handled.end t.mid t.back after t.second) in
+    omega (arith, served, rest, ap length t.whole, length-append t.front t.back)
 
 any_pumps_size : (count : ℕ) → Implies (IfAny count Pumps) (MakesAtMostBySize most_of_pump)
 any_pumps_size zero f l after t = omega (arith, ap length t.0)

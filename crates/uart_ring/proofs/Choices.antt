@@ -1,6 +1,6 @@
 -- That ring calls leave no choice.
 use Rattle.std.proofs.Common.{◌≡◌, ◌<◌, ℕ, zero, suc, Bool, true, false, min, List, [], ◌∷◌, ◌++◌, length, take}
-use Rattle.std.proofs.Common.{refl, arith}
+use Rattle.std.proofs.Common.{◌&&◌, refl, arith}
 use Rattle.std.specs.Prelude.{⊤}
 use Rattle.std.proofs.Common.{sym, ◌∙◌, ap, subst, inl, inr, ◌⊎◌, Option, Some, None, Result, bit_and, bit_or, nat_lt, MatchBool}
 use Rattle.std.specs.Prelude.{MatchOption}
@@ -31,12 +31,13 @@ use Rattle.uart_16550.proofs.determined.Receive.{receives_determined}
 use Rattle.uart_16550.proofs.determined.Status.{disables_determined, enables_determined, takes_lsr_determined, takes_msr_determined}
 use Rattle.uart_16550.proofs.determined.Status.{dumps_determined}
 use Rattle.uart_16550.proofs.determined.Transmit.{sends_determined}
-use Rattle.uart_ring.specs.Ring.{RingDoing, RingFields, OnDriver, Stays, RingNext, RingTimes, IfAny, unchanged, with_driver, with_queued}
+use Rattle.uart_ring.specs.Ring.{RingDoing, RingFields, OnDriver, Stays, RingNext, IfAny, unchanged, with_driver, with_queued}
 use Rattle.uart_ring.specs.Ring.{with_received, with_paused, with_line, with_modem, without_sent, without_taken, free, is_full}
 use Rattle.uart_ring.proofs.Pausing.{ChangesIer, Pausing, joined_with, rid_of}
 use Rattle.uart_ring.specs.Ring.{sendable, waiting, RingSets, with_hold, with_low_mark, with_low, with_urgent, with_rounds, with_stuck}
 use Rattle.uart_ring.specs.Ring.{restarted, cleared}
-use Rattle.uart_ring.specs.Transmit.{ArmsIfLeft, Pumps, Queues, ResumesTransmit, Holds, Releases, QueuesUrgent, ClearsTransmit}
+use Rattle.uart_ring.specs.Transmit.{ArmsIfLeft, Pumps, Queues, ResumesTransmit, Holds}
+use Rattle.uart_ring.specs.Transmit.{Releases, QueuesUrgent, ClearsTransmit, PumpsSo, SendsSo}
 use Rattle.uart_ring.specs.Transmit.{SetsLowMark, TakesLow}
 use Rattle.uart_ring.specs.Receive.{EndsPause, FillsReceiveRing, PausesIfFull, TakesBytes, ClearsReceive}
 use Rattle.uart_ring.specs.Receive.{write_if_other, rts_at, MakesRts, MakesRtsIfAny, AdjustsRts}
@@ -50,9 +51,10 @@ use Rattle.uart_ring.specs.Storm.{StaysStuck, TriesToHandle, Restarts, not_pause
 use Rattle.uart_ring.specs.declared.ring.storm.StuckError.{StuckError}
 use Rattle.uart_ring.specs.declared.ring.storm.StuckError.TheVariants as stuck
 use Rattle.uart_ring.specs.Status.{TakesLine, TakesModem, DumpsRegisters}
-use Rattle.uart_ring.specs.Service.{ServesInterrupt, ServesOne, ShowsInterrupt, ShowsNone, ServesUpTo, Services}
+use Rattle.uart_ring.specs.Service.{ServesInterrupt, ServesOne, ShowsInterrupt, ShowsNone, ServesUpTo}
+use Rattle.uart_ring.specs.Service.{Services, SendsOnIf, ServesData, ServesLine, ServesTimes}
 use Rattle.uart_ring.specs.Choice.{LeavesNoRingChoice}
-use Rattle.uart_ring.specs.Handle.{Retriggers, RetriggersUnlessIdle, Handles}
+use Rattle.uart_ring.specs.Handle.{Retriggers, RetriggersUnlessIdle, Handles, SendsAndRetriggers}
 use Rattle.uart_ring.specs.declared.ring.service.TheConstants.{MAX_INTERRUPTS}
 use Rattle.uart_ring.proofs.RingDoings.{then_later}
 use Rattle.uart_ring.specs.declared.ring.service.HandleEnd.{HandleEnd}
@@ -115,20 +117,41 @@ arms_same (byte ∷ bytes) f = does_so (λ r. tt) (enables_determined IER.THR_EM
 arms_alike : (xs ys : List ℕ) → xs ≡ ys → (f : Fields) → Does (Unit {0}) f (ArmsIfLeft xs) (ArmsIfLeft ys)
 arms_alike xs ys e f = let P : List ℕ → Type 0 = λ zs. Does (Unit {0}) f (ArmsIfLeft xs) (ArmsIfLeft zs) in subst P e (arms_same xs f)
 
-pumps_same : (f : RingFields) → RingDoes (Unit {0}) f Pumps Pumps
-pumps_same f = record {
-  at = λ l m a b p q. so (λ r. (tt, r.1)) ((on_driver {f = f} (without_sent p.0) (without_sent q.0) (sends p.0 q.0)
-      (λ e. ap (λ n. without_sent n f) e)).at l m a b p.1 q.1);
-}
+pumps_so_same : (f : RingFields) (j k : ℕ) → RingDoes (j ≡ k) f (PumpsSo j) (PumpsSo k)
+pumps_so_same f j k = record { at = (on_driver {f = f} (without_sent j) (without_sent k) sends (λ e. ap (λ n. without_sent n f) e)).at }
   where
-    sends : (j k : ℕ) → Does (j ≡ k) f.driver
+    sends : Does (j ≡ k) f.driver
         (Next (Saving (Sends (sendable f) j)) (ArmsIfLeft (sendable (without_sent j f))))
         (Next (Saving (Sends (sendable f) k)) (ArmsIfLeft (sendable (without_sent k f))))
-    sends j k =
+    sends =
         does_next (does_saving f.driver (Sends (sendable f) j) (Sends (sendable f) k)
         (sends_determined (settings_of f.driver) (sendable f) j k))
         (λ e mid. does_so (λ t. e) (arms_alike (sendable (without_sent j f)) (sendable (without_sent k f))
         (ap (λ n. sendable (without_sent n f)) e) mid))
+
+pumps_same : (f : RingFields) → RingDoes (Unit {0}) f Pumps Pumps
+pumps_same f = record { at = λ l m a b p q. so (λ r. (tt, r.1)) ((pumps_so_same f p.0 q.0).at l m a b p.1 q.1) }
+
+-- some bytes are sent, or none, and the reads tell which
+sends_apart : (f : RingFields) (n : ℕ) → RingDoes ⊥ f (PumpsSo (suc n)) (SendsSo zero)
+sends_apart f n = record {
+  at = λ l m a b p q. so_front p.0.back p.0.whole (so (λ r. no r.0) ((does_saving f.driver (Sends (sendable f) (suc n))
+      (Sends (sendable f) 0) (sends_determined (settings_of f.driver) (sendable f) (suc n) 0)).at p.0.front m p.0.mid b.driver
+      p.0.first q.0));
+}
+  where
+    no : suc n ≡ 0 → ⊥
+    no e = omega (arith, e)
+
+sends_so_same : (f : RingFields) (j k : ℕ) → RingDoes (Unit {0}) f (SendsSo j) (SendsSo k)
+sends_so_same f zero zero = record {
+  at = (on_driver {f = f} unchanged unchanged (does_so (λ (e : 0 ≡ 0). tt) (does_saving f.driver (Sends (sendable f) 0) (Sends
+      (sendable f) 0)
+      (sends_determined (settings_of f.driver) (sendable f) 0 0))) (λ e. refl)).at;
+}
+sends_so_same f zero (suc k) = record { at = (ring_sym {C = Unit {0}} (sends_apart f k)).at }
+sends_so_same f (suc j) zero = record { at = λ l m a b p q. so (λ r. absurd r.0) ((sends_apart f j).at l m a b p q) }
+sends_so_same f (suc j) (suc k) = record { at = λ l m a b p q. so (λ r. (tt, r.1)) ((pumps_so_same f (suc j) (suc k)).at l m a b p q) }
 
 pausing_same : (change : ℕ → ℕ) (paused when : Bool) (f : RingFields) → Does (Unit {0}) f.driver (ChangesIer change) (ChangesIer change) →
     RingDoes (Unit {0}) f (Pausing change paused when) (Pausing change paused when)
@@ -158,14 +181,18 @@ fills_same f = record { at = λ l m a b p q. (both p.0 q.0).at l m a b p.1 q.1 }
         (λ e. ap (λ zs. with_received zs f) e)) (λ e mid. pauses_same mid)
 
 -- a status is taken, and noted so
+taken_same : (Takes : ℕ → Doing) (note : ℕ → RingFields → RingFields) (f : RingFields) →
+    ((x y : ℕ) → Does (x ≡ y) f.driver (Takes x) (Takes y)) → (x y : ℕ) →
+    RingDoes (x ≡ y) f (OnDriver (Takes x) (note x)) (OnDriver (Takes y) (note y))
+taken_same Takes note f determined x y = on_driver {f = f} (note x) (note y) (determined x y) (λ e. ap (λ n. note n f) e)
+
 abbrev Notes : (ℕ → Doing) → (ℕ → RingFields → RingFields) → RingDoing
 Notes Takes note f l after = (status : ℕ) × OnDriver (Takes status) (note status) f l after
 
 notes_same : (Takes : ℕ → Doing) (note : ℕ → RingFields → RingFields) (f : RingFields) →
     ((x y : ℕ) → Does (x ≡ y) f.driver (Takes x) (Takes y)) → RingDoes (Unit {0}) f (Notes Takes note) (Notes Takes note)
 notes_same Takes note f determined = record {
-  at = λ l m a b p q. so (λ r. (tt, r.1)) ((on_driver {f = f} (note p.0) (note q.0) (determined p.0 q.0)
-      (λ e. ap (λ n. note n f) e)).at l m a b p.1 q.1);
+  at = λ l m a b p q. so (λ r. (tt, r.1)) ((taken_same Takes note f determined p.0 q.0).at l m a b p.1 q.1);
 }
 
 abbrev note_line : ℕ → RingFields → RingFields
@@ -174,18 +201,41 @@ note_line status f = with_line (bit_or f.line (bit_and status LSR.LINE_ERRORS.0)
 abbrev note_modem : ℕ → RingFields → RingFields
 note_modem status f = with_modem (bit_or f.modem (bit_and status MSR.CHANGES.0)) f
 
-serves_same : (interrupt : InterruptType) (f : RingFields) → RingDoes (Unit {0}) f (ServesInterrupt interrupt) (ServesInterrupt interrupt)
-serves_same ReceiverLineStatus f = notes_same TakesLsr note_line f (takes_lsr_determined f.driver)
-serves_same ReceivedDataReady f = fills_same f
-serves_same ReceptionTimeout f = fills_same f
-serves_same TransmitterHoldingRegisterEmpty f = pumps_same f
-serves_same ModemStatus f = notes_same TakesMsr note_modem f (takes_msr_determined f.driver)
-serves_same DmaReceptionEndOfTransfer f = stays_same f
-serves_same DmaTransmissionEndOfTransfer f = stays_same f
+sends_on_same : (room : Bool) (f : RingFields) → RingDoes (Unit {0}) f (SendsOnIf room) (SendsOnIf room)
+sends_on_same true f = record { at = λ l m a b p q. (sends_so_same f p.0 q.0).at l m a b p.1 q.1 }
+sends_on_same false f = stays_same f
 
-serves_alike : (x y : InterruptType) → x ≡ y → (f : RingFields) → RingDoes (Unit {0}) f (ServesInterrupt x) (ServesInterrupt y)
-serves_alike x y e f = let P : InterruptType → Type 0 = λ z. RingDoes (Unit {0}) f (ServesInterrupt x) (ServesInterrupt z) in
-    subst P e (serves_same x f)
+serves_data_same : (room : Bool) (f : RingFields) → RingDoes (Unit {0}) f (ServesData room) (ServesData room)
+serves_data_same room f = ring_next (fills_same f) (λ e mid. sends_on_same room mid)
+
+-- the read of LSR decides whether a line status shows room
+serves_line_same : (sends x y : Bool) (f : RingFields) → RingDoes (x ≡ y) f (ServesLine sends x) (ServesLine sends y)
+serves_line_same sends x y f = record {
+  at = λ l m a b p q. so (λ r. (p.1 ∙ (ap (λ (n : ℕ). sends && has n LSR.THR_EMPTY.0) r.0 ∙ sym q.1), r.1))
+      ((taken_same TakesLsr note_line f (takes_lsr_determined f.driver) p.0 q.0).at l m a b p.2 q.2);
+}
+
+-- what is done is the same, and so is what is left
+left_same : {G : RingDoing} (is x y : Bool) (f : RingFields) → RingDoes (Unit {0}) f G G →
+    RingDoes (x ≡ y) f (λ f l after. (x ≡ is) × G f l after) (λ f l after. (y ≡ is) × G f l after)
+left_same is x y f same = record { at = λ l m a b p q. so (λ r. (p.0 ∙ sym q.0, r.1)) (same.at l m a b p.1 q.1) }
+
+serves_same : (sends room x y : Bool) (interrupt : InterruptType) (f : RingFields) →
+    RingDoes (x ≡ y) f (ServesInterrupt sends room x interrupt) (ServesInterrupt sends room y interrupt)
+serves_same sends room x y ReceiverLineStatus f = record { at = (serves_line_same sends x y f).at }
+serves_same sends room x y ReceivedDataReady f = record { at = (left_same false x y f (serves_data_same room f)).at }
+serves_same sends room x y ReceptionTimeout f = record { at = (left_same false x y f (serves_data_same room f)).at }
+serves_same sends room x y TransmitterHoldingRegisterEmpty f = record { at = (left_same false x y f (pumps_same f)).at }
+serves_same sends room x y ModemStatus f =
+    record { at = (left_same room x y f (notes_same TakesMsr note_modem f (takes_msr_determined f.driver))).at }
+serves_same sends room x y DmaReceptionEndOfTransfer f = record { at = (left_same room x y f (stays_same f)).at }
+serves_same sends room x y DmaTransmissionEndOfTransfer f = record { at = (left_same room x y f (stays_same f)).at }
+
+serves_alike : (sends room x y : Bool) (i j : InterruptType) → i ≡ j → (f : RingFields) →
+    RingDoes (x ≡ y) f (ServesInterrupt sends room x i) (ServesInterrupt sends room y j)
+serves_alike sends room x y i j e f =
+    let P : InterruptType → Type 0 = λ z. RingDoes (x ≡ y) f (ServesInterrupt sends room x i) (ServesInterrupt sends room y z) in
+    subst P e (serves_same sends room x y i f)
 
 -- ---- service
 
@@ -215,19 +265,19 @@ reads_same x y f = on_driver {f = f} unchanged unchanged (shows_same x y f.drive
 inside : (x y : InterruptType) → Some x ≡ Some y → x ≡ y
 inside x y e = cc
 
-serves_one_same : (f : RingFields) → RingDoes (Unit {0}) f ServesOne ServesOne
-serves_one_same f = record { at = λ l m a b p q. (both p.0 q.0).at l m a b p.1 q.1 }
+serves_one_same : (sends room x y : Bool) (f : RingFields) → RingDoes (x ≡ y) f (ServesOne sends room x) (ServesOne sends room y)
+serves_one_same sends room x y f = record { at = λ l m a b p q. (both p.0 q.0).at l m a b p.1 q.1 }
   where
-    both : (x y : InterruptType) → RingDoes (Unit {0}) f (RingNext (ReadsIsr (Some x)) (ServesInterrupt x))
-        (RingNext (ReadsIsr (Some y)) (ServesInterrupt y))
-    both x y = ring_next (reads_same (Some x) (Some y) f) (λ e mid. serves_alike x y (inside x y e) mid)
+    both : (i j : InterruptType) → RingDoes (x ≡ y) f (RingNext (ReadsIsr (Some i)) (ServesInterrupt sends room x i))
+        (RingNext (ReadsIsr (Some j)) (ServesInterrupt sends room y j))
+    both i j = ring_next (reads_same (Some i) (Some j) f) (λ e mid. serves_alike sends room x y i j (inside i j e) mid)
 
 -- an interrupt is shown, or none
-apart : (f : RingFields) → RingDoes ⊥ f ServesOne (ReadsIsr None)
-apart f = record { at = λ l m a b p q. (ring_front (read_apart p.0)).at l m a b p.1 q }
+apart : (sends room x : Bool) (f : RingFields) → RingDoes ⊥ f (ServesOne sends room x) (ReadsIsr None)
+apart sends room x f = record { at = λ l m a b p q. (ring_front (read_apart p.0)).at l m a b p.1 q }
   where
-    read_apart : (x : InterruptType) → RingDoes ⊥ f (ReadsIsr (Some x)) (ReadsIsr None)
-    read_apart x = ring_so (λ e. cc) (reads_same (Some x) None f)
+    read_apart : (i : InterruptType) → RingDoes ⊥ f (ReadsIsr (Some i)) (ReadsIsr None)
+    read_apart i = ring_so (λ e. cc) (reads_same (Some i) None f)
 
 -- nothing and then something is that
 stays_then : (G : RingDoing) (f : RingFields) (l : List Access) (a : RingFields) → RingNext Stays G f l a → G f l a
@@ -235,10 +285,6 @@ stays_then G f l a t =
     let whole : l ≡ t.back = t.whole ∙ ap (λ xs. xs ++ t.back) t.first.0 in
     let P : RingFields → Type 0 = λ g. G g l a in
     subst P t.first.1 (rw whole t.second)
-
-times_same : (n : ℕ) (f : RingFields) → RingDoes (Unit {0}) f (RingTimes n ServesOne) (RingTimes n ServesOne)
-times_same zero f = stays_same f
-times_same (suc n) f = ring_next (serves_one_same f) (λ t mid. times_same n mid)
 
 -- one read of ISR that identifies none
 abbrev ReadsNone : Bool → RingDoing
@@ -252,54 +298,112 @@ none_same x y f = on_driver {f = f} unchanged unchanged (record {
       (read_determined offsets.ISR p.0 q.0)).at l m a b p.3 q.3);
 }) (λ e. refl)
 
-none_apart : (idle : Bool) (f : RingFields) → RingDoes ⊥ f ServesOne (ReadsNone idle)
-none_apart idle f = record { at = λ l m a b p q. (apart f).at l m a b p (shows_none idle f m b q) }
+none_apart : (sends room x idle : Bool) (f : RingFields) → RingDoes ⊥ f (ServesOne sends room x) (ReadsNone idle)
+none_apart sends room x idle f = record { at = λ l m a b p q. (apart sends room x f).at l m a b p (shows_none idle f m b q) }
 
 -- some were served, and then this was done
-abbrev ServedThen : ℕ → RingDoing → RingDoing
-ServedThen n G = RingNext (RingTimes n ServesOne) G
+abbrev ServedThen : (sends : Bool) (n : ℕ) (room left : Bool) → RingDoing → RingDoing
+ServedThen sends n room left G = RingNext (ServesTimes sends n room left) G
 
-one_first : (n : ℕ) (G : RingDoing) (f : RingFields) (l : List Access) (a : RingFields) → ServedThen (suc n) G f l a →
-    RingNext ServesOne (ServedThen n G) f l a
-one_first n G f l a t = then_later ServesOne (RingTimes n ServesOne) G f l a t
+one_first : (sends : Bool) (n : ℕ) (room next left : Bool) (G : RingDoing) (f : RingFields) (l : List Access) (a : RingFields) →
+    RingNext (RingNext (ServesOne sends room next) (ServesTimes sends n next left)) G f l a →
+    RingNext (ServesOne sends room next) (ServedThen sends n next left G) f l a
+one_first sends n room next left G f l a t = then_later (ServesOne sends room next) (ServesTimes sends n next left) G f l a t
+
+-- the first of more than one, and then the others
+first_of : (sends : Bool) (n : ℕ) (room left : Bool) (G : RingDoing) (f : RingFields) (l : List Access) (a : RingFields) →
+    ServedThen sends (suc n) room left G f l a →
+    (next : Bool) × RingNext (ServesOne sends room next) (ServedThen sends n next left G) f l a
+first_of sends n room left G f l a t = (
+  t.first.0,
+  one_first sends n room t.first.0 left G f l a
+      (record { front = t.front; back = t.back; mid = t.mid; whole = t.whole; first = t.first.1; second = t.second }),
+)
+
+-- none, and then something is that
+none_first : (sends room left : Bool) (G : RingDoing) (f : RingFields) (l : List Access) (a : RingFields) →
+    ServedThen sends zero room left G f l a → (left ≡ room) × G f l a
+none_first sends room left G f l a t = (
+  t.first.0,
+  stays_then G f l a
+      (record { front = t.front; back = t.back; mid = t.mid; whole = t.whole; first = t.first.1; second = t.second }),
+)
 
 -- one of them went on
-goes_on : {D : Type 0} (G : RingDoing) (idle : Bool) (f : RingFields) →
-    RingDoes D f (RingNext ServesOne G) (ServedThen zero (ReadsNone idle))
-goes_on G idle f = record { at = λ l m a b p q. (ring_front (none_apart idle f)).at l m a b p (stays_then (ReadsNone idle) f m b q) }
+goes_on : {D : Type 0} (sends room next : Bool) (G : RingDoing) (idle : Bool) (f : RingFields) →
+    RingDoes D f (RingNext (ServesOne sends room next) G) (ReadsNone idle)
+goes_on sends room next G idle f = record { at = λ l m a b p q. (ring_front (none_apart sends room next idle f)).at l m a b p q }
 
-looked_same : (n k : ℕ) (x y : Bool) (f : RingFields) →
-    RingDoes ((n ≡ k) × (x ≡ y)) f (ServedThen n (ReadsNone x)) (ServedThen k (ReadsNone y))
-looked_same zero zero x y f = ring_next (stays_same f) (λ t mid. ring_so (λ e. (refl, e)) (none_same x y mid))
-looked_same zero (suc k) x y f = ring_sym (record {
-  at = λ l m a b p q. (goes_on (ServedThen k (ReadsNone y)) x f).at l m a b (one_first k (ReadsNone y) f l a p) q;
-})
-looked_same (suc n) zero x y f = record {
-  at = λ l m a b p q. (goes_on (ServedThen n (ReadsNone x)) y f).at l m a b (one_first n (ReadsNone x) f l a p) q;
-}
-looked_same (suc n) (suc k) x y f = record {
+-- both went on, with the same behind it
+both_on : {D : Type 0} (sends : Bool) (n k : ℕ) (room next other x y : Bool) (G H : RingDoing) (f : RingFields) →
+    ((mid : RingFields) → RingDoes D mid (ServedThen sends n next x G) (ServedThen sends k next y H)) →
+    RingDoes D f (RingNext (ServesOne sends room next) (ServedThen sends n next x G))
+    (RingNext (ServesOne sends room other) (ServedThen sends k other y H))
+both_on {D} sends n k room next other x y G H f rest =
+    ring_next (serves_one_same sends room next other f)
+    (λ e mid. let P : Bool → Type 0 = λ z. RingDoes D mid (ServedThen sends n next x G) (ServedThen sends k z y H) in subst P e (rest mid))
+
+looked_same : (sends : Bool) (n k : ℕ) (room x y i j : Bool) (f : RingFields) →
+    RingDoes ((n ≡ k) × (i ≡ j) × (x ≡ y)) f (ServedThen sends n room x (ReadsNone i)) (ServedThen sends k room y (ReadsNone j))
+looked_same sends zero zero room x y i j f = record {
   at = λ l m a b p q.
-      (ring_next (serves_one_same f) (λ t mid. ring_so (λ e. (ap suc e.0, e.1)) (looked_same n k x y mid))).at l m a b
-      (one_first n (ReadsNone x) f l a p) (one_first k (ReadsNone y) f m b q);
+      let p' = none_first sends room x (ReadsNone i) f l a p in
+      let q' = none_first sends room y (ReadsNone j) f m b q in
+      so (λ r. ((refl, r.0, p'.0 ∙ sym q'.0), r.1)) ((none_same i j f).at l m a b p'.1 q'.1);
+}
+looked_same sends zero (suc k) room x y i j f = ring_sym (record {
+  at = λ l m a b p q.
+      let p' = first_of sends k room y (ReadsNone j) f l a p in
+      (goes_on sends room p'.0 _ i f).at l m a b p'.1 (none_first sends room x (ReadsNone i) f m b q).1;
+})
+looked_same sends (suc n) zero room x y i j f = record {
+  at = λ l m a b p q.
+      let p' = first_of sends n room x (ReadsNone i) f l a p in
+      (goes_on sends room p'.0 _ j f).at l m a b p'.1 (none_first sends room y (ReadsNone j) f m b q).1;
+}
+looked_same sends (suc n) (suc k) room x y i j f = record {
+  at = λ l m a b p q.
+      let p' = first_of sends n room x (ReadsNone i) f l a p in
+      let q' = first_of sends k room y (ReadsNone j) f m b q in
+      (both_on sends n k room p'.0 q'.0 x y (ReadsNone i) (ReadsNone j) f
+      (λ mid. ring_so (λ e. (ap suc e.0, e.1, e.2)) (looked_same sends n k p'.0 x y i j mid))).at l m a b p'.1 q'.1;
 }
 
 -- ISR showed none, or more were served
-looked_before : (n k : ℕ) → n < k → (idle : Bool) (G : RingDoing) (f : RingFields) →
-    RingDoes ⊥ f (ServedThen n (ReadsNone idle)) (ServedThen k G)
-looked_before n zero few idle G f = absurd (omega (arith, few))
-looked_before zero (suc k) few idle G f = ring_sym (record {
-  at = λ l m a b p q. (goes_on (ServedThen k G) idle f).at l m a b (one_first k G f l a p) q;
+looked_before : (sends : Bool) (n k : ℕ) → n < k → (room x y idle : Bool) (G : RingDoing) (f : RingFields) →
+    RingDoes ⊥ f (ServedThen sends n room x (ReadsNone idle)) (ServedThen sends k room y G)
+looked_before sends n zero few room x y idle G f = absurd (omega (arith, few))
+looked_before sends zero (suc k) few room x y idle G f = ring_sym (record {
+  at = λ l m a b p q.
+      let p' = first_of sends k room y G f l a p in
+      (goes_on sends room p'.0 _ idle f).at l m a b p'.1 (none_first sends room x (ReadsNone idle) f m b q).1;
 })
-looked_before (suc n) (suc k) few idle G f = record {
-  at = λ l m a b p q. (ring_next (serves_one_same f) (λ t mid. looked_before n k (omega (arith, few)) idle G mid)).at l m a b
-      (one_first n (ReadsNone idle) f l a p) (one_first k G f m b q);
+looked_before sends (suc n) (suc k) few room x y idle G f = record {
+  at = λ l m a b p q.
+      let p' = first_of sends n room x (ReadsNone idle) f l a p in
+      let q' = first_of sends k room y G f m b q in
+      (both_on sends n k room p'.0 q'.0 x y (ReadsNone idle) G f
+      (λ mid. looked_before sends n k (omega (arith, few)) p'.0 x y idle G mid)).at l m a b p'.1 q'.1;
 }
 
 -- as many as the limit were served
-full_same : (n k : ℕ) → n ≡ k → (f : RingFields) → RingDoes (Unit {0}) f (ServedThen n Stays) (ServedThen k Stays)
-full_same n k e f =
-    let P : ℕ → Type 0 = λ i. RingDoes (Unit {0}) f (ServedThen n Stays) (ServedThen i Stays) in
-    subst P e (ring_next (times_same n f) (λ t mid. stays_same mid))
+full_same : (sends : Bool) (n k : ℕ) → n ≡ k → (room x y : Bool) (f : RingFields) →
+    RingDoes (x ≡ y) f (ServedThen sends n room x Stays) (ServedThen sends k room y Stays)
+full_same sends zero zero e room x y f = record {
+  at = λ l m a b p q.
+      let p' = none_first sends room x Stays f l a p in
+      let q' = none_first sends room y Stays f m b q in
+      so (λ r. (p'.0 ∙ sym q'.0, r.1)) ((stays_same f).at l m a b p'.1 q'.1);
+}
+full_same sends zero (suc k) e room x y f = absurd (omega (arith, e))
+full_same sends (suc n) zero e room x y f = absurd (omega (arith, e))
+full_same sends (suc n) (suc k) e room x y f = record {
+  at = λ l m a b p q.
+      let p' = first_of sends n room x Stays f l a p in
+      let q' = first_of sends k room y Stays f m b q in
+      (both_on sends n k room p'.0 q'.0 x y Stays Stays f
+      (λ mid. full_same sends n k (omega (arith, e)) p'.0 x y mid)).at l m a b p'.1 q'.1;
+}
 
 -- what bit 0 of ISR says
 abbrev end_of : Bool → HandleEnd
@@ -307,44 +411,50 @@ end_of true = Idle
 end_of false = Unknown
 
 -- ISR showed none, or the limit was reached
-abbrev ByLook : (limit : ℕ) → Handled → RingFields → List Access → RingFields → Type 0
-ByLook limit x f l a = (idle : Bool) × (x.end ≡ end_of idle) × (x.served < limit) × ServedThen x.served (ReadsNone idle) f l a
+abbrev ByLook : (sends : Bool) (limit : ℕ) → Handled → (room : Bool) → RingFields → List Access → RingFields → Type 0
+ByLook sends limit x room f l a =
+    (idle : Bool) × (x.end ≡ end_of idle) × (x.served < limit) × ServedThen sends x.served false room (ReadsNone idle) f l a
 
-abbrev AtLimit : (limit : ℕ) → Handled → RingFields → List Access → RingFields → Type 0
-AtLimit limit x f l a = (x.end ≡ Limit) × (x.served ≡ limit) × ServedThen x.served Stays f l a
+abbrev AtLimit : (sends : Bool) (limit : ℕ) → Handled → (room : Bool) → RingFields → List Access → RingFields → Type 0
+AtLimit sends limit x room f l a = (x.end ≡ Limit) × (x.served ≡ limit) × ServedThen sends x.served false room Stays f l a
 
-by_look : (limit n : ℕ) (end : HandleEnd) (f : RingFields) (l : List Access) (a : RingFields) →
-    ServesUpTo limit (record { served = n; end = end }) f l a →
-    ByLook limit (record { served = n; end = end }) f l a ⊎ AtLimit limit (record { served = n; end = end }) f l a
-by_look limit n Idle f l a t = inl (true, refl, t.0, t.1)
-by_look limit n Unknown f l a t = inl (false, refl, t.0, t.1)
-by_look limit n Limit f l a t = inr (refl, t.0, t.1)
+by_look : (sends : Bool) (limit n : ℕ) (end : HandleEnd) (room : Bool) (f : RingFields) (l : List Access) (a : RingFields) →
+    ServesUpTo sends limit (record { served = n; end = end }) room f l a →
+    ByLook sends limit (record { served = n; end = end }) room f l a ⊎ AtLimit sends limit (record { served = n; end = end }) room f l a
+by_look sends limit n Idle room f l a t = inl (true, refl, t.0, t.1)
+by_look sends limit n Unknown room f l a t = inl (false, refl, t.0, t.1)
+by_look sends limit n Limit room f l a t = inr (refl, t.0, t.1)
 
-serves_up_to_same : (limit : ℕ) (f : RingFields) (x y : Handled) → RingDoes (x ≡ y) f (ServesUpTo limit x) (ServesUpTo limit y)
-serves_up_to_same limit f x y = record {
-  at = λ l m a b p q. at l m a b (by_look limit x.served x.end f l a p) (by_look limit y.served y.end f m b q);
+serves_up_to_same : (sends : Bool) (limit : ℕ) (f : RingFields) (x y : Handled) (r s : Bool) →
+    RingDoes ((x ≡ y) × (r ≡ s)) f (ServesUpTo sends limit x r) (ServesUpTo sends limit y s)
+serves_up_to_same sends limit f x y r s = record {
+  at = λ l m a b p q. at l m a b (by_look sends limit x.served x.end r f l a p) (by_look sends limit y.served y.end s f m b q);
 }
   where
     same : (x.served ≡ y.served) × (x.end ≡ y.end) → x ≡ y
     same e i = record { served = e.0 i; end = e.1 i }
 
-    at : (l m : List Access) (a b : RingFields) → ByLook limit x f l a ⊎ AtLimit limit x f l a →
-        ByLook limit y f m b ⊎ AtLimit limit y f m b → SameOrPart ((x ≡ y) × (a ≡ b)) l m
+    at : (l m : List Access) (a b : RingFields) → ByLook sends limit x r f l a ⊎ AtLimit sends limit x r f l a →
+        ByLook sends limit y s f m b ⊎ AtLimit sends limit y s f m b → SameOrPart (((x ≡ y) × (r ≡ s)) × (a ≡ b)) l m
     at l m a b (inl p) (inl q) =
-        so (λ r. (same (r.0.0, p.1 ∙ (ap end_of r.0.1 ∙ sym q.1)), r.1))
-        ((looked_same x.served y.served p.0 q.0 f).at l m a b p.3 q.3)
+        so (λ e. ((same (e.0.0, p.1 ∙ (ap end_of e.0.1 ∙ sym q.1)), e.0.2), e.1))
+        ((looked_same sends x.served y.served false r s p.0 q.0 f).at l m a b p.3 q.3)
     at l m a b (inl p) (inr q) =
-        so (λ r. absurd r.0) ((looked_before x.served y.served (omega (arith, p.2, q.1)) p.0 Stays f).at l m a b p.3 q.2)
+        so (λ e. absurd e.0)
+        ((looked_before sends x.served y.served (omega (arith, p.2, q.1)) false r s p.0 Stays f).at l m a b p.3 q.2)
     at l m a b (inr p) (inl q) =
-        so_sym (so (λ r. r.0) ((looked_before y.served x.served (omega (arith, p.1, q.2)) q.0 Stays f).at m l b a q.3 p.2))
+        so_sym (so (λ e. e.0)
+        ((looked_before sends y.served x.served (omega (arith, p.1, q.2)) false s r q.0 Stays f).at m l b a q.3 p.2))
     at l m a b (inr p) (inr q) =
         let served : x.served ≡ y.served = p.1 ∙ sym q.1 in
-        so (λ r. (same (served, p.0 ∙ sym q.0), r.1)) ((full_same x.served y.served served f).at l m a b p.2 q.2)
+        so (λ e. ((same (served, p.0 ∙ sym q.0), e.0), e.1))
+        ((full_same sends x.served y.served served false r s f).at l m a b p.2 q.2)
 
 services_same : (f : RingFields) (x y : ℕ) → RingDoes (x ≡ y) f (Services x) (Services y)
 services_same f x y = record {
-  at = λ l m a b p q. so (λ r. (ap (λ (h : Handled). h.served) r.0, r.1))
-      ((serves_up_to_same MAX_INTERRUPTS f (record { served = x; end = p.0 }) (record { served = y; end = q.0 })).at l m a b p.1 q.1);
+  at = λ l m a b p q. so (λ r. (ap (λ (h : Handled). h.served) r.0.0, r.1))
+      ((serves_up_to_same false MAX_INTERRUPTS f (record { served = x; end = p.0 }) (record { served = y; end = q.0 }) p.1 q.1).at
+      l m a b p.2 q.2);
 }
 
 pub services_leave_no_choice : LeavesNoRingChoice Services
@@ -362,21 +472,30 @@ pub retriggers_leave_no_choice : LeavesNoRingChoice (λ (_ : ⊤). Retriggers)
 retriggers_leave_no_choice =
     no_choice (λ f x y. record { at = λ l m a b p q. so (λ r. (refl, r.1)) ((retriggers_same f).at l m a b p q) })
 
-unless_idle_same : (end : HandleEnd) (f : RingFields) → RingDoes (Unit {0}) f (RetriggersUnlessIdle end) (RetriggersUnlessIdle end)
-unless_idle_same Idle f = stays_same f
-unless_idle_same Unknown f = retriggers_same f
-unless_idle_same Limit f = retriggers_same f
+sends_and_retriggers_same : (room : Bool) (f : RingFields) → RingDoes (Unit {0}) f (SendsAndRetriggers room) (SendsAndRetriggers room)
+sends_and_retriggers_same room f = ring_next (sends_on_same room f) (λ e mid. retriggers_same mid)
 
-unless_idle_alike : (x y : HandleEnd) → x ≡ y → (f : RingFields) →
-    RingDoes (Unit {0}) f (RetriggersUnlessIdle x) (RetriggersUnlessIdle y)
-unless_idle_alike x y e f =
-    let P : HandleEnd → Type 0 = λ z. RingDoes (Unit {0}) f (RetriggersUnlessIdle x) (RetriggersUnlessIdle z) in
-    subst P e (unless_idle_same x f)
+unless_idle_same : (room : Bool) (end : HandleEnd) (f : RingFields) →
+    RingDoes (Unit {0}) f (RetriggersUnlessIdle room end) (RetriggersUnlessIdle room end)
+unless_idle_same room Idle f = stays_same f
+unless_idle_same room Unknown f = sends_and_retriggers_same room f
+unless_idle_same room Limit f = sends_and_retriggers_same room f
+
+unless_idle_alike : (r s : Bool) → r ≡ s → (x y : HandleEnd) → x ≡ y → (f : RingFields) →
+    RingDoes (Unit {0}) f (RetriggersUnlessIdle r x) (RetriggersUnlessIdle s y)
+unless_idle_alike r s same x y e f =
+    let P : HandleEnd → Type 0 = λ z. RingDoes (Unit {0}) f (RetriggersUnlessIdle r x) (RetriggersUnlessIdle r z) in
+    let Q : Bool → Type 0 = λ z. RingDoes (Unit {0}) f (RetriggersUnlessIdle r x) (RetriggersUnlessIdle z y) in
+    subst Q same (subst P e (unless_idle_same r x f))
 
 handles_same : (limit : ℕ) (f : RingFields) (x y : Handled) → RingDoes (x ≡ y) f (Handles limit x) (Handles limit y)
-handles_same limit f x y =
-    ring_next (serves_up_to_same limit f x y)
-    (λ e mid. ring_so (λ t. e) (unless_idle_alike x.end y.end (ap (λ (h : Handled). h.end) e) mid))
+handles_same limit f x y = record { at = λ l m a b p q. (both p.0 q.0).at l m a b p.1 q.1 }
+  where
+    both : (r s : Bool) → RingDoes (x ≡ y) f (RingNext (ServesUpTo true limit x r) (RetriggersUnlessIdle r x.end))
+        (RingNext (ServesUpTo true limit y s) (RetriggersUnlessIdle s y.end))
+    both r s =
+        ring_next (serves_up_to_same true limit f x y r s)
+        (λ e mid. ring_so (λ t. e.0) (unless_idle_alike r s e.1 x.end y.end (ap (λ (h : Handled). h.end) e.0) mid))
 
 pub handles_leave_no_choice : (limit : ℕ) → LeavesNoRingChoice (Handles limit)
 handles_leave_no_choice limit = no_choice (handles_same limit)

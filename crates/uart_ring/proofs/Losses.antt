@@ -25,7 +25,7 @@ use Rattle.uart_16550.specs.Receive.{Receives, Hit}
 use Rattle.uart_16550.specs.Transmit.{Sends, SendHit, SendMiss, LinesAllow, data_writes}
 use Rattle.uart_16550.specs.Status.{Enables}
 use Rattle.uart_16550.proofs.Paths.{or_assoc}
-use Rattle.uart_ring.specs.Ring.{RingFields, OnDriver, Stays, RingTimes, IfAny, with_driver, with_queued, with_received}
+use Rattle.uart_ring.specs.Ring.{RingFields, OnDriver, Stays, IfAny, with_driver, with_queued, with_received}
 use Rattle.uart_ring.specs.Ring.{with_paused, without_sent, without_taken, unchanged, is_full, waiting, sendable, RingSets, with_urgent}
 use Rattle.uart_ring.specs.Ring.{with_hold, with_low_mark, with_low, with_rounds, with_stuck, restarted}
 use Rattle.uart_ring.specs.Transmit.{ArmsIfLeft, Pumps, Queues, ResumesTransmit, Holds, Releases, QueuesUrgent, ClearsTransmit}
@@ -43,8 +43,9 @@ use Rattle.uart_ring.specs.Storm.{StaysStuck, TriesToHandle, Restarts, not_pause
 use Rattle.uart_ring.specs.declared.ring.storm.StuckError.{StuckError}
 use Rattle.uart_ring.proofs.Sending.{waiting_sent, cleared_left}
 use Rattle.uart_ring.specs.Status.{NotesLine, NotesModem, TakesLine, TakesModem}
-use Rattle.uart_ring.specs.Service.{ShowsInterrupt, ShowsNone, ServesInterrupt, ServesOne, Stops, ServesUpTo, Services}
-use Rattle.uart_ring.specs.Handle.{Retriggers, RetriggersUnlessIdle, Handles}
+use Rattle.uart_ring.specs.Service.{ShowsInterrupt, ShowsNone, ServesInterrupt, ServesOne, Stops}
+use Rattle.uart_ring.specs.Service.{ServesUpTo, Services, SendsOnIf, ServesData, ServesTimes}
+use Rattle.uart_ring.specs.Handle.{Retriggers, RetriggersUnlessIdle, Handles, SendsAndRetriggers}
 use Rattle.uart_ring.specs.declared.ring.service.TheConstants.{MAX_INTERRUPTS}
 use Rattle.uart_ring.specs.declared.ring.service.HandleEnd.{HandleEnd}
 use Rattle.uart_ring.specs.declared.ring.service.HandleEnd.TheVariants.{Idle, Unknown, Limit}
@@ -280,7 +281,7 @@ received_carries room bytes f l after ((fits, saved), same) =
     let saves = saving_saves [] bytes f.driver l after.driver moves saved in
     carries_driver f (with_received bytes f) l after [] bytes saves same refl refl refl refl refl refl
 
-fills_carry : Implies FillsReceiveRing Carries
+pub fills_carry : Implies FillsReceiveRing Carries
 fills_carry f l after (bytes, t) =
     rw t.whole (carries-then f t.mid after t.front t.back (received_carries _ bytes f t.front t.mid t.first)
     (pauses_carry t.mid t.back after t.second))
@@ -299,8 +300,8 @@ read_carries f l after urgent transmit receive moves settings line modem = recor
   settings = settings;
 }
 
-notes_line_carries : Implies NotesLine Carries
-notes_line_carries f l after (status, ((read, is, shown, changed), same)) =
+notes_line_carries : (status : ℕ) → Implies (NotesLine status) Carries
+notes_line_carries status f l after ((read, is, shown, changed), same) =
     rw is (read_carries f _ after (ap (λ (g : RingFields). g.urgent) same) (ap (λ (g : RingFields). g.transmit) same)
     (ap (λ (g : RingFields). g.receive) same)
     (record { written_is = refl; read_is = refl }) (ap settings_of changed)
@@ -317,30 +318,42 @@ notes_modem_carries f l after (status, ((read, is, shown, changed), same)) =
     (rw (ap (λ (g : RingFields). g.modem) same, ap (λ (g : Fields). g.msr) changed, shown)
     (now_noted f.modem f.driver.msr read MSR.CHANGES.0)))
 
-serves_carry : (interrupt : InterruptType) → Implies (ServesInterrupt interrupt) Carries
-serves_carry ReceiverLineStatus f l after t = notes_line_carries f l after t
-serves_carry ReceivedDataReady f l after t = fills_carry f l after t
-serves_carry ReceptionTimeout f l after t = fills_carry f l after t
-serves_carry TransmitterHoldingRegisterEmpty f l after t = pumps_carry f l after t
-serves_carry ModemStatus f l after t = notes_modem_carries f l after t
-serves_carry DmaReceptionEndOfTransfer f l after t = stays_carries f l after t
-serves_carry DmaTransmissionEndOfTransfer f l after t = stays_carries f l after t
+pub sends_on_carries : (room : Bool) → Implies (SendsOnIf room) Carries
+sends_on_carries true f l after (zero, ((sends, saved), same)) =
+    let moves = sends_move (sendable f) 0 (settings_of f.driver) l sends in
+    carries_still f f l after (saving_saves [] [] f.driver l after.driver moves saved) same refl refl refl refl refl
+sends_on_carries true f l after (suc n, t) = pumps_carry f l after (suc n, t)
+sends_on_carries false f l after t = stays_carries f l after t
+
+serves_data_carries : (room : Bool) → Implies (ServesData room) Carries
+serves_data_carries room f l after t =
+    rw t.whole (carries-then f t.mid after t.front t.back (fills_carry f t.front t.mid t.first) (sends_on_carries room t.mid
+    t.back after t.second))
+
+serves_carry : (sends room left : Bool) (interrupt : InterruptType) → Implies (ServesInterrupt sends room left interrupt) Carries
+serves_carry sends room left ReceiverLineStatus f l after (status, is, t) = notes_line_carries status f l after t
+serves_carry sends room left ReceivedDataReady f l after (is, t) = serves_data_carries room f l after t
+serves_carry sends room left ReceptionTimeout f l after (is, t) = serves_data_carries room f l after t
+serves_carry sends room left TransmitterHoldingRegisterEmpty f l after (is, t) = pumps_carry f l after t
+serves_carry sends room left ModemStatus f l after (is, t) = notes_modem_carries f l after t
+serves_carry sends room left DmaReceptionEndOfTransfer f l after (is, t) = stays_carries f l after t
+serves_carry sends room left DmaTransmissionEndOfTransfer f l after (is, t) = stays_carries f l after t
 
 pub shows_carry : (interrupt : Option InterruptType) → Implies (OnDriver (ShowsInterrupt interrupt) unchanged) Carries
 shows_carry interrupt f l after ((isr, shown, t), same) =
     let moves : Moves [] [] l = rw t.0.is (record { written_is = refl; read_is = refl }) in
     carries_still f f l after (saving_saves [] [] f.driver l after.driver moves t.1) same refl refl refl refl refl
 
-pub serves_one_carries : Implies ServesOne Carries
-serves_one_carries f l after (interrupt, t) =
+pub serves_one_carries : (sends room left : Bool) → Implies (ServesOne sends room left) Carries
+serves_one_carries sends room left f l after (interrupt, t) =
     rw t.whole (carries-then f t.mid after t.front t.back (shows_carry _ f t.front t.mid t.first)
-    (serves_carry interrupt t.mid t.back after t.second))
+    (serves_carry sends room left interrupt t.mid t.back after t.second))
 
-pub times_carry : (n : ℕ) → Implies (RingTimes n ServesOne) Carries
-times_carry zero f l after t = stays_carries f l after t
-times_carry (suc n) f l after t =
-    rw t.whole (carries-then f t.mid after t.front t.back (serves_one_carries f t.front t.mid t.first)
-    (times_carry n t.mid t.back after t.second))
+pub times_carry : (sends : Bool) (n : ℕ) (room left : Bool) → Implies (ServesTimes sends n room left) Carries
+times_carry sends zero room left f l after (is, t) = stays_carries f l after t
+times_carry sends (suc n) room left f l after (next, t) =
+    rw t.whole (carries-then f t.mid after t.front t.back (serves_one_carries sends room next f t.front t.mid t.first)
+    (times_carry sends n next left t.mid t.back after t.second))
 
 -- a read of ISR that shows none
 pub shows_none : (idle : Bool) → Implies (OnDriver (ShowsNone idle) unchanged) (OnDriver (ShowsInterrupt None) unchanged)
@@ -370,15 +383,21 @@ stops_carry Idle f l after t = shows_carry None f l after (shows_none true f l a
 stops_carry Unknown f l after t = shows_carry None f l after (shows_none false f l after t)
 stops_carry Limit f l after t = stays_carries f l after t
 
-pub serves_up_to_carries : (limit : ℕ) (handled : Handled) → Implies (ServesUpTo limit handled) Carries
-serves_up_to_carries limit handled f l after (within, t) =
-    rw t.whole (carries-then f t.mid after t.front t.back (times_carry handled.served f t.front t.mid t.first)
+pub serves_up_to_carries : (sends : Bool) (limit : ℕ) (handled : Handled) (room : Bool) →
+    Implies (ServesUpTo sends limit handled room) Carries
+serves_up_to_carries sends limit handled room f l after (within, t) =
+    rw t.whole (carries-then f t.mid after t.front t.back (times_carry sends handled.served false room f t.front t.mid t.first)
     (stops_carry handled.end t.mid t.back after t.second))
 
-unless_idle_carry : (end : HandleEnd) → Implies (RetriggersUnlessIdle end) Carries
-unless_idle_carry Idle f l after t = stays_carries f l after t
-unless_idle_carry Unknown f l after t = retriggers_carry f l after t
-unless_idle_carry Limit f l after t = retriggers_carry f l after t
+sends_and_retriggers_carry : (room : Bool) → Implies (SendsAndRetriggers room) Carries
+sends_and_retriggers_carry room f l after t =
+    rw t.whole (carries-then f t.mid after t.front t.back (sends_on_carries room f t.front t.mid t.first)
+    (retriggers_carry t.mid t.back after t.second))
+
+unless_idle_carry : (room : Bool) (end : HandleEnd) → Implies (RetriggersUnlessIdle room end) Carries
+unless_idle_carry room Idle f l after t = stays_carries f l after t
+unless_idle_carry room Unknown f l after t = sends_and_retriggers_carry room f l after t
+unless_idle_carry room Limit f l after t = sends_and_retriggers_carry room f l after t
 
 -- ---- each call
 
@@ -394,8 +413,8 @@ carried f l after c = record {
 }
 
 pub services_lose_nothing : (count : ℕ) → Implies (Services count) (LosesNothing [] [] 0 0)
-services_lose_nothing count f l after (end, t) =
-    carried f l after (serves_up_to_carries MAX_INTERRUPTS (record { served = count; end = end }) f l after t)
+services_lose_nothing count f l after (end, room, t) =
+    carried f l after (serves_up_to_carries false MAX_INTERRUPTS (record { served = count; end = end }) room f l after t)
 
 pub retriggers_lose_nothing : Implies Retriggers (LosesNothing [] [] 0 0)
 retriggers_lose_nothing f l after t = carried f l after (retriggers_carry f l after t)
@@ -404,9 +423,9 @@ pub adjusts_lose_nothing : (marks : ReceiveMarks) → Implies (AdjustsRts marks)
 adjusts_lose_nothing marks f l after t = carried f l after (makes_rts_carries (rts_at marks (free f.receive)) f l after t)
 
 pub handles_carry : (limit : ℕ) (handled : Handled) → Implies (Handles limit handled) Carries
-handles_carry limit handled f l after t =
-    rw t.whole (carries-then f t.mid after t.front t.back (serves_up_to_carries limit handled f t.front t.mid t.first)
-    (unless_idle_carry handled.end t.mid t.back after t.second))
+handles_carry limit handled f l after (room, t) =
+    rw t.whole (carries-then f t.mid after t.front t.back (serves_up_to_carries true limit handled room f t.front t.mid t.first)
+    (unless_idle_carry room handled.end t.mid t.back after t.second))
 
 pub handles_lose_nothing : (limit : ℕ) (handled : Handled) → Implies (Handles limit handled) (LosesNothing [] [] 0 0)
 handles_lose_nothing limit handled f l after t = carried f l after (handles_carry limit handled f l after t)

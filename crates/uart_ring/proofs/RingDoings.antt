@@ -1,12 +1,12 @@
 -- What the rings do, one after another.
-use Rattle.std.proofs.Common.{◌≡◌, ◌+◌, ℕ, zero, suc, List, [], ◌++◌, refl, sym, subst, add-one, append_assoc, append-nil}
+use Rattle.std.proofs.Common.{◌≡◌, ◌+◌, ℕ, zero, suc, Bool, List, [], ◌++◌, refl, sym, subst, add-one, append_assoc, append-nil}
 use Rattle.uart_spec.specs.Access.{Path}
 use Rattle.uart_spec.specs.declared.access.Access.{Access}
 use Rattle.uart_16550.specs.Driver.{Did, Doing, fields}
 use Rattle.uart_16550.proofs.Paths.{path_then}
 use Rattle.uart_ring.specs.Ring.{RingFields, RingDoing, RingDid, ring_fields, ring_backend_of, OnDriver, Stays, RingSets, RingNext}
-use Rattle.uart_ring.specs.Ring.{RingTimes}
 use Rattle.uart_ring.specs.Ring.{with_driver}
+use Rattle.uart_ring.specs.Service.{ServesOne, ServesTimes}
 use Rattle.uart_ring.specs.declared.ring.Uart16550Ring.{Uart16550Ring}
 
 -- the driver did this, and the other fields changed so
@@ -49,28 +49,44 @@ ring_from {B} {step} {a} {c} b same h p = record {
   does = h p.list p.does;
 }
 
--- one time more
-times_more : (n : ℕ) (G : RingDoing) (f g h : RingFields) (l m : List Access) → RingTimes n G f l g → G g m h →
-    RingTimes (n + 1) G f (l ++ m) h
-times_more zero G f g h l m p q =
-    let same : f ≡ g = sym p.1 in
-    let D : RingFields → Type 0 = λ e. G e m h in
-    rw p.0 (record { front = m; back = []; mid = h; whole = sym (append-nil m); first = subst D (sym same) q; second = (refl, refl) })
-times_more (suc n) G f g h l m p q =
-    let rest = times_more n G p.mid g h p.back m p.second q in
-    rw (add-one (suc n)) (record {
-      front = p.front;
-      back = p.back ++ m;
-      mid = p.mid;
-      whole = rw p.whole (append_assoc p.front p.back m);
-      first = p.first;
-      second = rw (add-one n) at rest;
-    })
+-- one interrupt more was served
+times_more : (sends : Bool) (n : ℕ) (room next left : Bool) (f g h : RingFields) (l m : List Access) →
+    ServesTimes sends n room next f l g → ServesOne sends next left g m h → ServesTimes sends (n + 1) room left f (l ++ m) h
+times_more sends zero room next left f g h l m p q =
+    let same : f ≡ g = sym p.1.1 in
+    let D : RingFields → Type 0 = λ e. ServesOne sends room left e m h in
+    let N : Bool → Type 0 = λ r. ServesOne sends r left g m h in
+    rw p.1.0 (
+      left,
+      record {
+        front = m;
+        back = [];
+        mid = h;
+        whole = sym (append-nil m);
+        first = subst D (sym same) (subst N p.0 q);
+        second = (refl, (refl, refl));
+      },
+    )
+times_more sends (suc n) room next left f g h l m (first, p) q =
+    let rest = times_more sends n first next left p.mid g h p.back m p.second q in
+    rw (add-one (suc n)) (
+      first,
+      record {
+        front = p.front;
+        back = p.back ++ m;
+        mid = p.mid;
+        whole = rw p.whole (append_assoc p.front p.back m);
+        first = p.first;
+        second = rw (add-one n) at rest;
+      },
+    )
 
-pub ring_times : {B : Type 0} {step : B → Access → B → Type 0} (n : ℕ) (G : RingDoing) {a b c : Uart16550Ring B} →
-    RingDid step (RingTimes n G) a b → RingDid step G b c → RingDid step (RingTimes (n + 1) G) a c
-ring_times n G {a} {b} {c} p q =
-    ring_among (λ l t. let mid = t.mid in rw t.whole (times_more n G (ring_fields a) mid (ring_fields c) t.front t.back t.first t.second))
+pub ring_times : {B : Type 0} {step : B → Access → B → Type 0} (sends : Bool) (n : ℕ) (room next left : Bool) {a b c : Uart16550Ring B} →
+    RingDid step (ServesTimes sends n room next) a b → RingDid step (ServesOne sends next left) b c →
+    RingDid step (ServesTimes sends (n + 1) room left) a c
+ring_times sends n room next left {a} {b} {c} p q =
+    ring_among (λ l t. let mid = t.mid in
+    rw t.whole (times_more sends n room next left (ring_fields a) mid (ring_fields c) t.front t.back t.first t.second))
     (ring_then p q)
 
 -- what comes after two comes after the second of them

@@ -14,11 +14,11 @@ use Rattle.uart_spec.specs.declared.registers.interrupt_type.InterruptType.{Inte
 use Rattle.uart_spec.specs.declared.registers.interrupt_type.InterruptType.TheVariants as interrupts
 use Rattle.uart_spec.specs.declared.registers.offsets.TheConstants as offsets
 use Rattle.uart_16550.specs.Driver.{Fields}
-use Rattle.uart_ring.specs.Ring.{RingDoing, RingFields, OnDriver, RingTimes, RingSets, is_full, with_rounds, with_stuck}
+use Rattle.uart_ring.specs.Ring.{RingDoing, RingFields, OnDriver, RingSets, is_full, with_rounds, with_stuck}
 use Rattle.uart_ring.specs.Ring.{with_driver, unchanged}
 use Rattle.uart_ring.specs.Receive.{PausesIfFull, FillsReceiveRing}
-use Rattle.uart_ring.specs.Service.{ServesInterrupt, ServesOne, Stops}
-use Rattle.uart_ring.specs.Handle.{RetriggersUnlessIdle, Handles}
+use Rattle.uart_ring.specs.Service.{ServesInterrupt, ServesOne, Stops, SendsOnIf, ServesData, ServesTimes}
+use Rattle.uart_ring.specs.Handle.{RetriggersUnlessIdle, Handles, SendsAndRetriggers}
 use Rattle.uart_ring.specs.Storm.{TurnsOff, LooksOnceMore, CountsUnfinished, CountsRound, HandlesRound, StaysStuck}
 use Rattle.uart_ring.specs.Storm.{TriesToHandle, unless_stuck, EndsWith, LeavesOff, CountsOrIsIdle, IsLastStill}
 use Rattle.uart_ring.specs.Storm.{counts_as, has_moved, CountsSince, round_limit}
@@ -44,34 +44,48 @@ pauses_keep f l after t = pausing_keeps (rid_of IER.DATA_READY.0) true (is_full 
 fills_keep : Implies FillsReceiveRing KeepsRounds
 fills_keep f l after (bytes, t) = pauses_keep t.mid t.back after t.second ∙ ap (λ (g : RingFields). g.rounds) t.first.1
 
-serves_keep : (interrupt : InterruptType) → Implies (ServesInterrupt interrupt) KeepsRounds
-serves_keep interrupts.ReceivedDataReady f l after t = fills_keep f l after t
-serves_keep interrupts.ReceptionTimeout f l after t = fills_keep f l after t
-serves_keep interrupts.DmaReceptionEndOfTransfer f l after t = ap (λ (g : RingFields). g.rounds) t.1
-serves_keep interrupts.DmaTransmissionEndOfTransfer f l after t = ap (λ (g : RingFields). g.rounds) t.1
-serves_keep _ f l after t = ap (λ (g : RingFields). g.rounds) t.1.1
+sends_on_keep : (room : Bool) → Implies (SendsOnIf room) KeepsRounds
+sends_on_keep true f l after (zero, t) = ap (λ (g : RingFields). g.rounds) t.1
+sends_on_keep true f l after (suc n, t) = ap (λ (g : RingFields). g.rounds) t.1
+sends_on_keep false f l after t = ap (λ (g : RingFields). g.rounds) t.1
 
-serves_one_keeps : Implies ServesOne KeepsRounds
-serves_one_keeps f l after (interrupt, t) =
-    serves_keep interrupt t.mid t.back after t.second ∙ ap (λ (g : RingFields). g.rounds) t.first.1
+serves_data_keeps : (room : Bool) → Implies (ServesData room) KeepsRounds
+serves_data_keeps room f l after t = sends_on_keep room t.mid t.back after t.second ∙ fills_keep f t.front t.mid t.first
 
-times_keep : (n : ℕ) → Implies (RingTimes n ServesOne) KeepsRounds
-times_keep zero f l after t = ap (λ (g : RingFields). g.rounds) t.1
-times_keep (suc n) f l after t = times_keep n t.mid t.back after t.second ∙ serves_one_keeps f t.front t.mid t.first
+serves_keep : (sends room left : Bool) (interrupt : InterruptType) → Implies (ServesInterrupt sends room left interrupt) KeepsRounds
+serves_keep sends room left interrupts.ReceiverLineStatus f l after t = ap (λ (g : RingFields). g.rounds) t.2.1
+serves_keep sends room left interrupts.ReceivedDataReady f l after t = serves_data_keeps room f l after t.1
+serves_keep sends room left interrupts.ReceptionTimeout f l after t = serves_data_keeps room f l after t.1
+serves_keep sends room left interrupts.DmaReceptionEndOfTransfer f l after t = ap (λ (g : RingFields). g.rounds) t.1.1
+serves_keep sends room left interrupts.DmaTransmissionEndOfTransfer f l after t = ap (λ (g : RingFields). g.rounds) t.1.1
+serves_keep sends room left _ f l after t = ap (λ (g : RingFields). g.rounds) t.1.1.1
+
+serves_one_keeps : (sends room left : Bool) → Implies (ServesOne sends room left) KeepsRounds
+serves_one_keeps sends room left f l after (interrupt, t) =
+    serves_keep sends room left interrupt t.mid t.back after t.second ∙ ap (λ (g : RingFields). g.rounds) t.first.1
+
+times_keep : (sends : Bool) (n : ℕ) (room left : Bool) → Implies (ServesTimes sends n room left) KeepsRounds
+times_keep sends zero room left f l after t = ap (λ (g : RingFields). g.rounds) t.1.1
+times_keep sends (suc n) room left f l after (next, t) =
+    times_keep sends n next left t.mid t.back after t.second ∙ serves_one_keeps sends room next f t.front t.mid t.first
 
 stops_keep : (end : HandleEnd) → Implies (Stops end) KeepsRounds
 stops_keep Idle f l after t = ap (λ (g : RingFields). g.rounds) t.1
 stops_keep _ f l after t = ap (λ (g : RingFields). g.rounds) t.1
 
-unless_idle_keep : (end : HandleEnd) → Implies (RetriggersUnlessIdle end) KeepsRounds
-unless_idle_keep Idle f l after t = ap (λ (g : RingFields). g.rounds) t.1
-unless_idle_keep _ f l after t = ap (λ (g : RingFields). g.rounds) t.1
+sends_and_retriggers_keep : (room : Bool) → Implies (SendsAndRetriggers room) KeepsRounds
+sends_and_retriggers_keep room f l after t = ap (λ (g : RingFields). g.rounds) t.second.1 ∙ sends_on_keep room f t.front t.mid t.first
+
+unless_idle_keep : (room : Bool) (end : HandleEnd) → Implies (RetriggersUnlessIdle room end) KeepsRounds
+unless_idle_keep room Idle f l after t = ap (λ (g : RingFields). g.rounds) t.1
+unless_idle_keep room Unknown f l after t = sends_and_retriggers_keep room f l after t
+unless_idle_keep room Limit f l after t = sends_and_retriggers_keep room f l after t
 
 pub handles_keep : (limit : ℕ) (handled : Handled) → Implies (Handles limit handled) KeepsRounds
-handles_keep limit handled f l after t =
+handles_keep limit handled f l after (room, t) =
     let u = t.first.1 in
-    unless_idle_keep handled.end t.mid t.back after t.second ∙
-    (stops_keep handled.end u.mid u.back t.mid u.second ∙ times_keep handled.served f u.front u.mid u.first)
+    unless_idle_keep room handled.end t.mid t.back after t.second ∙
+    (stops_keep handled.end u.mid u.back t.mid u.second ∙ times_keep true handled.served false room f u.front u.mid u.first)
 
 -- ---- how lists end
 
@@ -186,17 +200,17 @@ stops_idle Idle e f l after ((isr, shown, idle, t), same) = (isr, idle, ([], t.0
 stops_idle Unknown e f l after t = absurd (cc)
 stops_idle Limit e f l after t = absurd (cc)
 
-none_after : (end : HandleEnd) → end ≡ Idle → (f : RingFields) (l : List Access) (after : RingFields) →
-    RetriggersUnlessIdle end f l after → l ≡ []
-none_after Idle e f l after t = t.0
-none_after Unknown e f l after t = absurd (cc)
-none_after Limit e f l after t = absurd (cc)
+none_after : (room : Bool) (end : HandleEnd) → end ≡ Idle → (f : RingFields) (l : List Access) (after : RingFields) →
+    RetriggersUnlessIdle room end f l after → l ≡ []
+none_after room Idle e f l after t = t.0
+none_after room Unknown e f l after t = absurd (cc)
+none_after room Limit e f l after t = absurd (cc)
 
 handles_idle : (limit : ℕ) (handled : Handled) → handled.end ≡ Idle → (f : RingFields) (l : List Access) (after : RingFields) →
     Handles limit handled f l after → EndsIdle l
-handles_idle limit handled e f l after t =
+handles_idle limit handled e f l after (room, t) =
     let u = t.first.1 in
-    idle_before t.front t.back l t.whole (none_after handled.end e t.mid t.back after t.second)
+    idle_before t.front t.back l t.whole (none_after room handled.end e t.mid t.back after t.second)
     (idle_later u.front u.back t.front u.whole (stops_idle handled.end e u.mid u.back t.mid u.second))
 
 abbrev not_found : Option StuckError

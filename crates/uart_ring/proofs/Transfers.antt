@@ -1,5 +1,5 @@
 -- Bytes between the rings and the driver.
-use Rattle.std.proofs.Common.{◌≡◌, ◌+◌, ℕ, true, false, ◌==◌, List, [], ◌∷◌, ◌++◌, sym, ◌∙◌, ap, subst, arith}
+use Rattle.std.proofs.Common.{◌≡◌, ◌<◌, ◌+◌, ℕ, zero, suc, true, false, ◌==◌, List, [], ◌∷◌, ◌++◌, sym, ◌∙◌, ap, subst, arith}
 use Rattle.std.proofs.Common.{length, take, drop, min, not, refl, length-take}
 use Rattle.std.proofs.lemmas.Bool.{false≢true}
 use Rattle.std.proofs.lemmas.Bool.Decides.{nat_tests}
@@ -15,7 +15,8 @@ use Rattle.uart_16550.proofs.Doings.{did_made, did_among, did_then}
 use Rattle.uart_ring.specs.Queue.{Queue, queue}
 use Rattle.uart_ring.specs.Ring.{RingDid, ring_fields, free, sendable, without_sent, without_sent_bytes, with_received, with_driver}
 use Rattle.uart_ring.specs.Ring.{IfAny, without_taken}
-use Rattle.uart_ring.specs.Transmit.{Pumps, ArmsIfLeft}
+use Rattle.uart_ring.specs.Lossless.{Implies}
+use Rattle.uart_ring.specs.Transmit.{PumpsSo, SendsSo, ArmsIfLeft}
 use Rattle.uart_ring.specs.Receive.{ReceivesToEnd, PausesIfFull, FillsReceiveRing, EndsPause, TakesBytes}
 use Rattle.uart_ring.specs.declared.ring.Uart16550Ring.{Uart16550Ring}
 use Rattle.uart_ring.proofs.RingDoings.{ring_did, ring_then, ring_among, ring_from}
@@ -49,14 +50,14 @@ pub pumped : {B : Type 0} {step : B → Access → B → Type 0} (G : Doing) (se
     mid ≡ without_sent_bytes sent (record a { uart = v }) →
     ((f : Fields) (l : List Access) (after : Fields) → G f l after → ArmsIfLeft (sendable (ring_fields mid)) f l after) →
     Did step (Saving (Sends (sendable (ring_fields a)) sent)) a.uart v → Did step G mid.uart u →
-    RingDid step Pumps a (record mid { uart = u })
+    RingDid step (PumpsSo sent) a (record mid { uart = u })
 pumped {B} {step} G sent a mid v u gone arms sends changes =
     let D : Uart16550 B → Type 0 = λ x. Did step G x u in
     let p = did_then sends (subst D (ap (λ (r : Uart16550Ring B). r.uart) gone) changes) in
     let bytes = sendable (ring_fields a) in
     let left = sendable (without_sent sent (ring_fields a)) in
     let is_left : sendable (ring_fields mid) ≡ left = ap (λ (r : Uart16550Ring B). sendable (ring_fields r)) gone in
-    ring_among (λ l t. (sent, t))
+    ring_among (λ l t. t)
     (ring_did {G = Next (Saving (Sends bytes sent)) (ArmsIfLeft left)} (without_sent sent) a
     (record mid { uart = u })
     (did_among (λ f l after t. record {
@@ -68,6 +69,20 @@ pumped {B} {step} G sent a mid v u gone arms sends changes =
       second = let A : List ℕ → Type 0 = λ xs. ArmsIfLeft xs t.mid t.back after in subst A is_left (arms t.mid t.back after t.second);
     }) p)
     (ap (λ (r : Uart16550Ring B). ring_fields (record r { uart = u })) gone))
+
+-- so that a driver did this, and the rest is as it was
+pub pumped_so : {B : Type 0} {step : B → Access → B → Type 0} (sent : ℕ) (a mid b : Uart16550Ring B) (v : Uart16550 B) →
+    mid ≡ without_sent_bytes sent (record a { uart = v }) → Did step (Saving (Sends (sendable (ring_fields a)) sent)) a.uart v →
+    Did step (ArmsIfLeft (sendable (ring_fields mid))) mid.uart b.uart → b ≡ record mid { uart = b.uart } →
+    RingDid step (PumpsSo sent) a b
+pumped_so {B} {step} sent a mid b v gone sends arms kept =
+    let P : Uart16550Ring B → Type 0 = λ r. RingDid step (PumpsSo sent) a r in
+    subst P (sym kept) (pumped (ArmsIfLeft (sendable (ring_fields mid))) sent a mid v b.uart gone (λ f l after t. t) sends arms)
+
+-- some were sent
+pub some_sent : (sent : ℕ) → 0 < sent → Implies (PumpsSo sent) (SendsSo sent)
+some_sent zero some f l after t = absurd (omega (arith, some))
+some_sent (suc n) some f l after t = t
 
 -- ---- to the receive ring
 

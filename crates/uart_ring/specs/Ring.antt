@@ -269,11 +269,6 @@ RingSets change f l after = (l ≡ []) × (after ≡ change f)
 abbrev pub RingNext : RingDoing → RingDoing → RingDoing
 RingNext G H = Next G H
 
--- n times
-abbrev pub RingTimes : ℕ → RingDoing → RingDoing
-RingTimes zero G = Stays
-RingTimes (suc n) G = RingNext G (RingTimes n G)
-
 -- this if the count is more than 0, else nothing at all
 abbrev pub IfAny : ℕ → RingDoing → RingDoing
 IfAny zero G = Stays

@@ -9,9 +9,9 @@ use Rattle.uart_ring.specs.Ring.{RingDoing, OnDriver, RingNext, unchanged, with_
 use Rattle.uart_ring.specs.Transmit.{ResumesTransmit}
 
 -- `lsr`, of which the line errors are noted
-abbrev pub NotesLine : RingDoing
-NotesLine f l after =
-    (status : ℕ) × OnDriver (TakesLsr status) (with_line (bit_or f.line (bit_and status LSR.LINE_ERRORS.0))) f l after
+abbrev pub NotesLine : (status : ℕ) → RingDoing
+NotesLine status f l after =
+    OnDriver (TakesLsr status) (with_line (bit_or f.line (bit_and status LSR.LINE_ERRORS.0))) f l after
 
 -- `msr`, of which the changes are noted
 abbrev pub NotesModem : RingDoing

@@ -1,11 +1,11 @@
 -- From the transmit ring to the chip.
-use Rattle.std.specs.Prelude.{◌≡◌, ℕ, Bool, true, false, List, [], ◌∷◌, length, take, min, Option, Some}
+use Rattle.std.specs.Prelude.{◌≡◌, ℕ, zero, suc, Bool, true, false, List, [], ◌∷◌, length, take, min, Option, Some}
 use Rattle.uart_spec.specs.declared.registers.interrupt_enable.TheConstants.IER
 use Rattle.uart_16550.specs.Driver.{Doing, Saving, Next}
 use Rattle.uart_16550.specs.Transmit.{Sends}
 use Rattle.uart_16550.specs.Status.{Enables, Disables}
-use Rattle.uart_ring.specs.Ring.{RingDoing, OnDriver, RingSets, IfAny, free, waiting, sendable, with_queued}
-use Rattle.uart_ring.specs.Ring.{without_sent}
+use Rattle.uart_ring.specs.Ring.{RingDoing, OnDriver, RingSets, IfAny, unchanged, free, waiting, sendable}
+use Rattle.uart_ring.specs.Ring.{without_sent, with_queued}
 use Rattle.uart_ring.specs.Ring.{cleared, with_urgent, with_hold, with_low_mark, with_low}
 
 -- THR_EMPTY is enabled if bytes are left to be sent, else disabled
@@ -16,11 +16,21 @@ ArmsIfLeft (byte ∷ bytes) = Enables IER.THR_EMPTY.0
 -- a pump: `send_bytes` of the bytes that may be sent, which is one burst of them, and those that were sent no longer
 -- wait; then THR_EMPTY is enabled or disabled. Without an urgent byte, a hold or a stuck chip these are the bytes of
 -- the transmit ring
-abbrev pub Pumps : RingDoing
-Pumps f l after =
-    (sent : ℕ)
-    × OnDriver (Next (Saving (Sends (sendable f) sent)) (ArmsIfLeft (sendable (without_sent sent f))))
+abbrev pub PumpsSo : (sent : ℕ) → RingDoing
+PumpsSo sent f l after =
+    OnDriver (Next (Saving (Sends (sendable f) sent)) (ArmsIfLeft (sendable (without_sent sent f))))
     (without_sent sent) f l after
+
+abbrev pub Pumps : RingDoing
+Pumps f l after = (sent : ℕ) × PumpsSo sent f l after
+
+-- the same, but without a byte that is sent IER is left as it is
+abbrev pub SendsSo : (sent : ℕ) → RingDoing
+SendsSo zero f l after = OnDriver (Saving (Sends (sendable f) 0)) unchanged f l after
+SendsSo (suc n) f l after = PumpsSo (suc n) f l after
+
+abbrev pub SendsOn : RingDoing
+SendsOn f l after = (sent : ℕ) × SendsSo sent f l after
 
 -- `queue`: bytes from the front of the input are added at the end of the transmit ring, as many as it has room for; if
 -- there are any, what the chip takes at once is sent

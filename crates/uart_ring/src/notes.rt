@@ -6,6 +6,7 @@ ghost use Rattle.uart_ring.specs.Notes.{AreNew, NotesErrors, notes_of, with_read
 ghost use Rattle.uart_ring.specs.Ring.{IsCapacity};
 
 use crate::queue::ByteQueue;
+use crate::refused::Refused;
 use crate::ring::{RingError, is_capacity};
 use bitflags::Flags;
 use std::alloc::Global;
@@ -40,10 +41,7 @@ pub struct UnnotedError {
 /// # Examples
 ///
 /// ```
-/// let noting = match ErrorNotes::new(alloc, backend, 256) {
-///     Ok(noting) => noting,
-///     Err((_backend, cause)) => return Err(StartError::NoRings(cause)),
-/// };
+/// let noting = ErrorNotes::new(alloc, backend, 256)?;
 /// let uart = Uart16550::new_with_backend(noting);
 /// ```
 #[derive(Drop)]
@@ -79,12 +77,9 @@ impl<B: Backend> ErrorNotes<B> {
     /// # Examples
     ///
     /// ```
-    /// let noting = match ErrorNotes::new(alloc, backend, 256) {
-    ///     Ok(noting) => noting,
-    ///     Err((_backend, cause)) => return Err(StartError::NoRings(cause)),
-    /// };
+    /// let noting = ErrorNotes::new(alloc, backend, 256)?;
     /// ```
-    pub fn new(alloc: Global, backend: B, capacity: usize) -> Result<Self, (B, RingError)>
+    pub fn new(alloc: Global, backend: B, capacity: usize) -> Result<Self, Refused<B, RingError>>
         // proved: `ErrorNotes` makes each access of the driver over the backend under it, and no
         //   other. At each read of DATA, but for one under DLAB, it notes the line errors that
         //   reads of LSR have shown since the one before, of the last so many bytes. It leaves out
@@ -94,15 +89,21 @@ impl<B: Backend> ErrorNotes<B> {
         ensures made { IfOk result (λ notes. AreNew notes backend capacity) }
         // if: the capacity is none that notes may have
         ensures refused { (IsCapacity capacity → ⊥) →
-            result ≡ Err (backend, RingError.BadCapacity) }
+            result ≡ Err (record { given = backend; cause = RingError.BadCapacity }) }
         ensures accepted { IsCapacity capacity →
-            IsOkUnless result (backend, RingError.OutOfMemory) }
+            IsOkUnless result (record { given = backend; cause = RingError.OutOfMemory }) }
     {
         if !is_capacity(capacity) {
-            return Err((backend, RingError::BadCapacity));
+            return Err(Refused {
+                given: backend,
+                cause: RingError::BadCapacity,
+            });
         }
         let Ok(noted) = ByteQueue::with_capacity(alloc, capacity) else {
-            return Err((backend, RingError::OutOfMemory));
+            return Err(Refused {
+                given: backend,
+                cause: RingError::OutOfMemory,
+            });
         };
         Ok(ErrorNotes {
             backend,

@@ -99,9 +99,9 @@ impl ByteQueue {
         (&end[..first], &cells[..count - first])
     }
 
-    // Returns the bytes in order, as two slices.
+    /// Returns the bytes in order, as two slices.
     #[inline]
-    fn as_slices(&self) -> (&[u8], &[u8])
+    pub(crate) fn as_slices(&self) -> (&[u8], &[u8])
         ensures { result.0.now ++ result.1.now ≡ self.now.items }
     {
         self.front_slices(self.len())

@@ -1,5 +1,5 @@
 //! The rings over a driver: their fields, the constructor, and the calls that read their state.
-ghost use Rattle.std.specs.Prelude.{◌≡◌, ◌≤◌, ◌↔◌, length, IsTrue, IfOk, IsOkUnless};
+ghost use Rattle.std.specs.Prelude.{◌≡◌, ◌≤◌, ◌↔◌, ◌++◌, length, IsTrue, IfOk, IsOkUnless};
 ghost use Rattle.std.specs.Borrow.{Lends, sem};
 ghost use Rattle.uart_16550.specs.contracts.driver.Uart16550.{the_row as driver_row};
 ghost use Rattle.uart_ring.specs.contracts.ring.Uart16550Ring.{the_row};
@@ -14,6 +14,7 @@ mod storm;
 mod transmit;
 
 use crate::queue::ByteQueue;
+use crate::refused::Refused;
 use bitflags::Flags;
 pub use line::Lowered;
 pub use receive::ReceiveMarks;
@@ -54,10 +55,7 @@ pub enum RingError {
 /// # Examples
 ///
 /// ```
-/// let mut ring = match Uart16550Ring::new(alloc, uart, 1024, 256) {
-///     Ok(ring) => ring,
-///     Err((_uart, cause)) => return Err(StartError::NoRings(cause)),
-/// };
+/// let mut ring = Uart16550Ring::new(alloc, uart, 1024, 256)?;
 /// ```
 // There is no model of the rings, as there is none of the driver: clauses speak of the fields
 // through `ring_fields` and `driver_of`.
@@ -112,17 +110,14 @@ impl<B: Backend> Uart16550Ring<B> {
     /// # Examples
     ///
     /// ```
-    /// let mut ring = match Uart16550Ring::new(alloc, uart, 1024, 256) {
-    ///     Ok(ring) => ring,
-    ///     Err((_uart, cause)) => return Err(StartError::NoRings(cause)),
-    /// };
+    /// let mut ring = Uart16550Ring::new(alloc, uart, 1024, 256)?;
     /// ```
     pub fn new(
         alloc: Global,
         uart: Uart16550<B>,
         tx_capacity: usize,
         rx_capacity: usize,
-    ) -> Result<Self, (Uart16550<B>, RingError)>
+    ) -> Result<Self, Refused<Uart16550<B>, RingError>>
         // promise: a refused `new` returns the driver
         // with: new.refused
         // shown by: a_refusal_returns_the_driver
@@ -130,19 +125,28 @@ impl<B: Backend> Uart16550Ring<B> {
         ensures made { IfOk result (λ ring. AreEmpty ring uart tx_capacity rx_capacity) }
         // if: the one capacity or the other is none that a ring may have
         ensures refused { (IsCapacity tx_capacity × IsCapacity rx_capacity → ⊥) →
-            result ≡ Err (uart, RingError.BadCapacity) }
+            result ≡ Err (record { given = uart; cause = RingError.BadCapacity }) }
         ensures accepted { IsCapacity tx_capacity × IsCapacity rx_capacity →
-            IsOkUnless result (uart, RingError.OutOfMemory) }
+            IsOkUnless result (record { given = uart; cause = RingError.OutOfMemory }) }
     {
         // A refusal returns the driver, which may hold a device that cannot be obtained again.
         if !is_capacity(tx_capacity) || !is_capacity(rx_capacity) {
-            return Err((uart, RingError::BadCapacity));
+            return Err(Refused {
+                given: uart,
+                cause: RingError::BadCapacity,
+            });
         }
         let Ok(transmit) = ByteQueue::with_capacity(alloc, tx_capacity) else {
-            return Err((uart, RingError::OutOfMemory));
+            return Err(Refused {
+                given: uart,
+                cause: RingError::OutOfMemory,
+            });
         };
         let Ok(receive) = ByteQueue::with_capacity(alloc, rx_capacity) else {
-            return Err((uart, RingError::OutOfMemory));
+            return Err(Refused {
+                given: uart,
+                cause: RingError::OutOfMemory,
+            });
         };
         Ok(Uart16550Ring {
             uart,
@@ -173,12 +177,26 @@ impl<B: Backend> Uart16550Ring<B> {
     pub fn transmit_len(&self) -> usize
         // proved: What the rings hold, which is never more than they have room for, and the driver
         //   under them
-        // on: `transmit_len`, `receive_len`, `transmit_room`, `is_paused`, `is_held`, `urgent`,
-        //   `stuck`, `inner`, `inner_mut`, `into_inner`
+        // on: `transmit_len`, `receive_len`, `transmit_room`, `queued`, `is_paused`, `is_held`,
+        //   `urgent`, `stuck`, `inner`, `inner_mut`, `into_inner`
         ensures len { result ≡ length (ring_fields self.now).transmit.items }
         ensures within { result ≤ (ring_fields self.now).transmit.capacity }
     {
         self.transmit.len()
+    }
+
+    /// Returns the bytes of the transmit ring, the oldest first, in two parts. An urgent byte is
+    /// not among them. Makes no access.
+    ///
+    /// # Examples
+    ///
+    /// ```
+    /// let (first, second) = ring.queued();
+    /// ```
+    pub fn queued(&self) -> (&[u8], &[u8])
+        ensures { result.0.now ++ result.1.now ≡ (ring_fields self.now).transmit.items }
+    {
+        self.transmit.as_slices()
     }
 
     /// Returns how many more bytes the transmit ring has room for. Makes no access.

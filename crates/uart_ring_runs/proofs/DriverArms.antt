@@ -16,7 +16,7 @@ use Rattle.uart_spec.specs.declared.registers.interrupt_enable.TheConstants.IER
 use Rattle.uart_spec.specs.declared.registers.line_control.TheConstants.LCR
 use Rattle.uart_spec.specs.declared.registers.line_status.TheConstants.LSR
 use Rattle.uart_spec.specs.declared.registers.offsets.TheConstants as offsets
-use Rattle.uart_events.specs.declared.call.Call.TheVariants as driver
+use Rattle.uart_call.specs.declared.call.Call.TheVariants as driver
 use Rattle.uart_16550.specs.Status.{Retriggers}
 use Rattle.uart_chip.proofs.conservation.Effects.{IsLevel, levelled}
 use Rattle.uart_ring_runs.proofs.ThrSpared.{IsToCome, IsThrArmed, to_come, comes, in_events, at_once, spared_step, spare}

@@ -33,9 +33,9 @@ pub use Rattle.uart_spec.specs.declared.registers.fifo_trigger_level.FifoTrigger
 pub use Rattle.uart_spec.specs.declared.registers.interrupt_type.InterruptType.{InterruptType}
 -- ---- what happens from outside: events, setups, calls
 
-pub use Rattle.uart_events.specs.declared.call.Answer.{Answer}
-pub use Rattle.uart_events.specs.declared.call.Answer.TheVariants.{Done, Stalled}
-pub use Rattle.uart_events.specs.declared.call.Call.{Call}
+pub use Rattle.uart_call.specs.declared.call.Answer.{Answer}
+pub use Rattle.uart_call.specs.declared.call.Answer.TheVariants.{Done, Stalled}
+pub use Rattle.uart_call.specs.declared.call.Call.{Call}
 pub use Rattle.uart_events.specs.declared.event.Chip.{Chip}
 pub use Rattle.uart_events.specs.declared.event.Chip.TheVariants.{Uart16550A, Uart16450}
 pub use Rattle.uart_events.specs.declared.event.Event.{Event}
@@ -93,8 +93,8 @@ pub use Rattle.uart_run.specs.Progress.{IsUnchecked, IsTimely, HasRoom, IsUnheld
 pub use Rattle.uart_run.specs.Ready.{Ready, BurstsFit, IsInitialised}
 pub use Rattle.uart_run.specs.ReceivedErrors.{character_errors, under_terminal}
 pub use Rattle.uart_run.specs.Run.{CallStep, State, machine_of, Chain, IsRun, Link}
-pub use Rattle.uart_run.specs.Session.{reported_by, Follows, GoesOn, AllFollow, IsWithinSession, count_of, received_by, sent_byte_of}
-pub use Rattle.uart_run.specs.Session.{sent_of}
+pub use Rattle.uart_run.specs.Reported.{reported_by, received_by, count_of, sent_byte_of, sent_of}
+pub use Rattle.uart_run.specs.Session.{Follows, GoesOn, AllFollow, IsWithinSession}
 pub use Rattle.uart_run.specs.Unhindered.{IsUnhindered}
 pub use Rattle.uart_run.specs.Wired.{IsWired, IsWiredChip}
 -- ---- laws of runs
@@ -118,7 +118,7 @@ pub use Rattle.uart_run.proofs.initialising.Initialised.{initialises, ready_by}
 
 pub use Rattle.uart_ring.specs.Armed.{ThrEmpty, known_after_all, Arms, KeepsIer, LeavesArmed, IsArmed, IsTrueOfIer, due_after_read}
 pub use Rattle.uart_ring.specs.Armed.{known_after, shows_thr_empty}
-pub use Rattle.uart_ring.specs.Handle.{Handles, RetriggersUnlessIdle, Retriggers}
+pub use Rattle.uart_ring.specs.Handle.{Handles, RetriggersUnlessIdle, Retriggers, SendsAndRetriggers}
 pub use Rattle.uart_ring.specs.Lossless.{data_read, data_written, Implies, LosesOnly, with_accepted, overtaken_by, untold_line}
 pub use Rattle.uart_ring.specs.Lossless.{untold_modem}
 pub use Rattle.uart_ring.specs.Notes.{Notes, NotesErrors, notes_of, with_access, bytes_of, errors_in, errors_of, noted_in, told_errors}
@@ -126,11 +126,12 @@ pub use Rattle.uart_ring.specs.Notes.{unnoted_in}
 pub use Rattle.uart_ring.specs.Queue.{Queue, latest, with_latest}
 pub use Rattle.uart_ring.specs.Receive.{rts_at, MakesRtsIfAny, FillsReceiveRing, PausesIfFull, TakesBytes, EndsPause, write_if_other}
 pub use Rattle.uart_ring.specs.Receive.{AdjustsRts, AdjustsXoff, ClearsReceive, Obeys, ObeysXoff, TellsIfAny, flow_character, xon}
-pub use Rattle.uart_ring.specs.Ring.{RingFields, ring_fields, RingDoing, free, RingDid, RingTimes, is_full, ring_backend_of, sendable}
+pub use Rattle.uart_ring.specs.Ring.{RingFields, ring_fields, RingDoing, free, RingDid, is_full, ring_backend_of, sendable}
 pub use Rattle.uart_ring.specs.Ring.{waiting, IfAny, OnDriver, RingSets, Stays, allowed, urgent_left, with_hold, with_paused, with_queued}
 pub use Rattle.uart_ring.specs.Ring.{with_rounds, without_sent, without_taken, AreEmpty, RingNext, cleared, driver_of, looked, unless_held}
 pub use Rattle.uart_ring.specs.Ring.{with_driver, with_low, with_low_mark, with_received, with_told_xoff, with_urgent}
-pub use Rattle.uart_ring.specs.Service.{ServesOne, Stops, ServesInterrupt, Services, IsWithin, ServesUpTo}
+pub use Rattle.uart_ring.specs.Service.{SendsOnIf, ServesData, ServesOne, ServesTimes}
+pub use Rattle.uart_ring.specs.Service.{Stops, ServesInterrupt, Services, IsWithin, ServesUpTo}
 pub use Rattle.uart_ring.specs.Status.{TakesLine, TakesModem}
 pub use Rattle.uart_ring.specs.Storm.{CountsRound, HandlesRound, StaysStuck, TriesToHandle, counts_as, every_bit, has_moved, round_limit}
 pub use Rattle.uart_ring.specs.Storm.{CountsUnfinished, LooksOnceMore, Restarts, unless_stuck, TurnsOff, not_paused}

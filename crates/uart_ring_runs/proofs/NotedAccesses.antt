@@ -1,5 +1,5 @@
 -- What each access does to the machine and to the notes above it, with the FIFO on and outside of loopback.
-use Rattle.uart_ring_runs.proofs.Names.{◌≡◌, ◌⊎◌, ℕ, ◌<◌, Bool, true, false, not, ◌||◌, ◌==◌, inl, inr, List, [], ◌∷◌, ◌++◌, length, nat_lt}
+use Rattle.uart_ring_runs.proofs.Names.{◌≡◌, ◌⊎◌, ℕ, ◌<◌, Bool, true, false, ◌||◌, ◌==◌, inl, inr, List, [], ◌∷◌, ◌++◌, length, nat_lt}
 use Rattle.uart_ring_runs.proofs.Names.{refl, sym, ◌∙◌, ap, subst, arith, append-nil, append_assoc, length-append, bit_and, bit_or}
 use Rattle.uart_ring_runs.proofs.Names.{if◌then◌else◌, AllByRecursion, false≢true, common_steps, or_zero_r, Path, has, has_any, Access}
 use Rattle.uart_ring_runs.proofs.Names.{Read, Write, ChipState, is_dlab_set, is_loopback, line_status, after_read, after_write, front_of}

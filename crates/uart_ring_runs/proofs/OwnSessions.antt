@@ -2,7 +2,7 @@
 use Rattle.uart_ring_runs.proofs.Names.{ℕ, List, [], ◌∷◌, ◌++◌, subst, All, All-head, All-tail, All-nil, All-cons, Call, calls_of, RingCall}
 use Rattle.uart_ring_runs.proofs.Names.{RingAnswer, RingState, IsOfRings, RingLink, AllLeaveRingArmed, TellsAtEnd, TellsSinceFirst}
 use Rattle.uart_ring_runs.proofs.Names.{RingConserves}
-use Rattle.uart_events.specs.declared.call.Call.TheVariants as driver
+use Rattle.uart_call.specs.declared.call.Call.TheVariants as driver
 use Rattle.uart_ring_runs.specs.declared.call.RingCall.TheVariants as call
 use Rattle.uart_ring_runs.specs.OwnSession.{OwnTellsAtEnd, OwnTellsSinceFirst, AllOwnLeaveArmed, OwnConserves}
 use Rattle.uart_ring_runs.proofs.RingOwn.{own_in_turn, own_keeps_armed, own_neither}

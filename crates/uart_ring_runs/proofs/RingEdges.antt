@@ -3,11 +3,11 @@ use Rattle.uart_ring_runs.proofs.Names.{◌≡◌, ◌⊎◌, ◌<◌, arith, �
 use Rattle.uart_ring_runs.proofs.Names.{subst, Option, Some, None, Result, Ok, Err, MatchBool, suc, nat_lt, is_some, MatchOption}
 use Rattle.uart_ring_runs.proofs.Names.{and_zero_r, false≢true, Path, Access, Read, Write, has, IsOnlyIfAny, Identifies, InterruptType}
 use Rattle.uart_ring_runs.proofs.Names.{Fields, ChipState, interrupt, enable, isr_of, MachineState, MachineStep, at_access, RingDoing}
-use Rattle.uart_ring_runs.proofs.Names.{RingDid, RingFields, RingNext, RingTimes, RingSets, with_rounds, every_bit, TurnsOff, LooksOnceMore}
+use Rattle.uart_ring_runs.proofs.Names.{RingDid, RingFields, RingNext, RingSets, with_rounds, every_bit, TurnsOff, LooksOnceMore}
 use Rattle.uart_ring_runs.proofs.Names.{CountsUnfinished, CountsRound, HandlesRound, StaysStuck, TriesToHandle, unless_stuck, counts_as}
-use Rattle.uart_ring_runs.proofs.Names.{has_moved, round_limit, StuckError, ServesOne, Stops, IsWithin, Services, MAX_INTERRUPTS}
+use Rattle.uart_ring_runs.proofs.Names.{has_moved, round_limit, StuckError, ServesTimes, Stops, IsWithin, Services, MAX_INTERRUPTS}
 use Rattle.uart_ring_runs.proofs.Names.{Retriggers, RetriggersUnlessIdle, Handles, HandleEnd, Idle, Unknown, Limit, Handled, RingState}
-use Rattle.uart_ring_runs.proofs.Names.{ring_machine, RingLink, RingChain, path_as, shows_64, rid_of}
+use Rattle.uart_ring_runs.proofs.Names.{ring_machine, RingLink, RingChain, path_as, shows_64, rid_of, SendsAndRetriggers}
 use Rattle.uart_spec.specs.declared.registers.interrupt_status.TheConstants.ISR
 use Rattle.uart_spec.specs.declared.registers.interrupt_type.InterruptType.TheVariants as interrupts
 use Rattle.uart_spec.specs.declared.registers.offsets.TheConstants as offsets
@@ -97,20 +97,32 @@ down_last (access ∷ l) k m n p h = down_last l k p.0 n p.2 h
 pub retrigger_down : (f : RingFields) (l : List Access) (after : RingFields) → Retriggers f l after → AlwaysDown l
 retrigger_down f l after (((ier, is), saved), same) = subst AlwaysDown (sym is) (retriggers_down ier)
 
+sends_and_retriggers_down : (room : Bool) (f : RingFields) (l : List Access) (after : RingFields) → SendsAndRetriggers room f l after →
+    AlwaysDown l
+sends_and_retriggers_down room f l after t =
+    let leaves : AllLeaveLcr t.front = (walk.sends_on MakesBlocks in_blocks room f t.front t.mid t.first).lcr in
+    subst AlwaysDown (sym t.whole) (always_later t.front t.back leaves (retrigger_down t.mid t.back after t.second))
+
 -- how a `handle` ends, after what it served
-abbrev Ends : HandleEnd → RingDoing
-Ends end = RingNext (Stops end) (RetriggersUnlessIdle end)
+abbrev Ends : (room : Bool) → HandleEnd → RingDoing
+Ends room end = RingNext (Stops end) (RetriggersUnlessIdle room end)
+
+-- what it served, and then how it ends
+abbrev Served : (room : Bool) → Handled → RingDoing
+Served room handled = RingNext (ServesTimes true handled.served false room) (Ends room handled.end)
 
 handled_later : (limit : ℕ) (handled : Handled) (f : RingFields) (l : List Access) (after : RingFields) → Handles limit handled f l after →
-    RingNext (RingTimes handled.served ServesOne) (Ends handled.end) f l after
-handled_later limit handled f l after t =
-    then_later (RingTimes handled.served ServesOne) (Stops handled.end) (RetriggersUnlessIdle handled.end) f l after
-    (record { front = t.front; back = t.back; mid = t.mid; whole = t.whole; first = t.first.1; second = t.second })
+    (room : Bool) × Served room handled f l after
+handled_later limit handled f l after (room, t) = (
+  room,
+  then_later (ServesTimes true handled.served false room) (Stops handled.end) (RetriggersUnlessIdle room handled.end) f l after
+      (record { front = t.front; back = t.back; mid = t.mid; whole = t.whole; first = t.first.1; second = t.second }),
+)
 
 -- one read of ISR, which showed that no interrupt is pending
-idle_list : (f : RingFields) (l : List Access) (after : RingFields) → Ends Idle f l after →
+idle_list : (room : Bool) (f : RingFields) (l : List Access) (after : RingFields) → Ends room Idle f l after →
     (isr : ℕ) × (has isr ISR.INTERRUPT_STATUS.0 ≡ true) × (l ≡ Read offsets.ISR isr ∷ [])
-idle_list f l after t =
+idle_list room f l after t =
     let shown = t.first.0 in
     (shown.0, shown.2, rw (shown.3.0.is, t.second.0) at t.whole)
 
@@ -141,7 +153,7 @@ none_unknown isr m n none bit s = by (interrupt c) c.fifo (shows_64 c) (rw s.1 a
 -- after a `service` of fewer interrupts than it serves at most the line is low
 pub serviced_down : (count : ℕ) (f : RingFields) (l : List Access) (after : RingFields) → Services count f l after →
     count < MAX_INTERRUPTS → (m n : MachineState) → Path MachineStep m l n → is_line_up n ≡ false
-serviced_down count f l after (end, (within, t)) few m n path =
+serviced_down count f l after (end, room, (within, t)) few m n path =
     let P : List Access → Type 0 = λ k. Path MachineStep m k n in
     down_last t.front t.back m n (subst P t.whole path) (λ o p. by end within t.second o p)
   where
@@ -159,9 +171,11 @@ serviced_down count f l after (end, (within, t)) few m n path =
 pub handled_down : (limit : ℕ) (handled : Handled) (f : RingFields) (l : List Access) (after : RingFields) →
     Handles limit handled f l after → handled.end ≡ Idle → (m n : MachineState) → Path MachineStep m l n → is_line_up n ≡ false
 handled_down limit handled f l after t idle m n path =
-    let h = handled_later limit handled f l after t in
-    let E : HandleEnd → Type 0 = λ end. Ends end h.mid h.back after in
-    let last = idle_list h.mid h.back after (subst E idle h.second) in
+    let both = handled_later limit handled f l after t in
+    let room = both.0 in
+    let h = both.1 in
+    let E : HandleEnd → Type 0 = λ end. Ends room end h.mid h.back after in
+    let last = idle_list room h.mid h.back after (subst E idle h.second) in
     let P : List Access → Type 0 = λ k. Path MachineStep m k n in
     down_last h.front h.back m n (subst P h.whole path) (λ o p. shown last.0 last.1 o (subst (λ k. Path MachineStep o k n) last.2 p))
   where
@@ -169,22 +183,25 @@ handled_down limit handled f l after t idle m n path =
         is_line_up n ≡ false
     shown isr bit o p = ap is_line_up p.2 ∙ idle_read isr o p.0 bit p.1
 
-ends_down : (end : HandleEnd) (f : RingFields) (l : List Access) (after : RingFields) → Ends end f l after → AlwaysDown l
-ends_down Idle f l after t = let read = idle_list f l after t in subst AlwaysDown (sym read.2) (idle_down read.0 read.1)
-ends_down Unknown f l after t =
+ends_down : (room : Bool) (end : HandleEnd) (f : RingFields) (l : List Access) (after : RingFields) → Ends room end f l after → AlwaysDown l
+ends_down room Idle f l after t =
+    let read = idle_list room f l after t in subst AlwaysDown (sym read.2) (idle_down read.0 read.1)
+ends_down room Unknown f l after t =
     let leaves : AllLeaveLcr t.front = rw t.first.0.3.0.is (tt, tt) in
-    subst AlwaysDown (sym t.whole) (always_later t.front t.back leaves (retrigger_down t.mid t.back after t.second))
-ends_down Limit f l after t =
+    subst AlwaysDown (sym t.whole) (always_later t.front t.back leaves (sends_and_retriggers_down room t.mid t.back after t.second))
+ends_down room Limit f l after t =
     let none : AllLeaveLcr t.front = rw t.first.0 tt in
-    subst AlwaysDown (sym t.whole) (always_later t.front t.back none (retrigger_down t.mid t.back after t.second))
+    subst AlwaysDown (sym t.whole) (always_later t.front t.back none (sends_and_retriggers_down room t.mid t.back after t.second))
 
 pub handles_down : (limit : ℕ) (handled : Handled) (f : RingFields) (l : List Access) (after : RingFields) →
     Handles limit handled f l after → AlwaysDown l
 handles_down limit handled f l after t =
-    let u = handled_later limit handled f l after t in
-    let leaves : AllLeaveLcr u.front = (walk.times MakesBlocks in_blocks handled.served f u.front u.mid u.first).lcr in
+    let both = handled_later limit handled f l after t in
+    let room = both.0 in
+    let u = both.1 in
+    let leaves : AllLeaveLcr u.front = (walk.times MakesBlocks in_blocks true handled.served false room f u.front u.mid u.first).lcr in
     subst AlwaysDown (sym u.whole)
-    (always_later u.front u.back leaves (ends_down handled.end u.mid u.back after u.second))
+    (always_later u.front u.back leaves (ends_down room handled.end u.mid u.back after u.second))
 
 -- ---- calls after it
 
@@ -225,22 +242,24 @@ handle_loses_no_edge limit handled s t off did =
     no_edge_lost did.list s t did.path
     (handles_down limit handled _ did.list _ did.does (ring_machine s) (ring_machine t) did.path off)
 
-idle_last : (end : HandleEnd) → end ≡ Idle → (f : RingFields) (l : List Access) (after : RingFields) → Ends end f l after →
+idle_last : (room : Bool) (end : HandleEnd) → end ≡ Idle → (f : RingFields) (l : List Access) (after : RingFields) →
+    Ends room end f l after →
     (m n : MachineState) → Path MachineStep m l n → is_line_up n ≡ false
-idle_last Idle e f l after t m n p =
-    let read = idle_list f l after t in
+idle_last room Idle e f l after t m n p =
+    let read = idle_list room f l after t in
     let q : Path MachineStep m (Read offsets.ISR read.0 ∷ []) n = path_as m n l (Read offsets.ISR read.0 ∷ []) read.2 p in
     ap is_line_up q.2 ∙ idle_read read.0 m q.0 read.1 q.1
-idle_last Unknown e f l after t m n p = absurd (cc)
-idle_last Limit e f l after t m n p = absurd (cc)
+idle_last room Unknown e f l after t m n p = absurd (cc)
+idle_last room Limit e f l after t m n p = absurd (cc)
 
 pub idle_is_down : (limit : ℕ) (handled : Handled) (s t : RingState) → handled.end ≡ Idle →
     RingDid MachineStep (Handles limit handled) s t → is_line_up (ring_machine t) ≡ false
 idle_is_down limit handled s t idle did =
-    let served = handled_later limit handled _ did.list _ did.does in
+    let both = handled_later limit handled _ did.list _ did.does in
+    let served = both.1 in
     down_last served.front served.back (ring_machine s) (ring_machine t)
     (path_as (ring_machine s) (ring_machine t) did.list (served.front ++ served.back) served.whole did.path)
-    (λ o q. idle_last handled.end idle served.mid served.back _ served.second o (ring_machine t) q)
+    (λ o q. idle_last both.0 handled.end idle served.mid served.back _ served.second o (ring_machine t) q)
 
 -- ---- storms
 

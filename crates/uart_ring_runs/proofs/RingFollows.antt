@@ -9,7 +9,7 @@ use Rattle.uart_ring_runs.proofs.Names.{ring_machine, DriverCalled, RingGoesOn, 
 use Rattle.uart_ring_runs.proofs.Names.{AllRingFollow, lasts_sound}
 use Rattle.uart_spec.specs.declared.registers.modem_control.TheConstants.MCR
 use Rattle.uart_spec.specs.declared.registers.offsets.TheConstants as offsets
-use Rattle.uart_events.specs.declared.call.Call.TheVariants as driver
+use Rattle.uart_call.specs.declared.call.Call.TheVariants as driver
 use Rattle.uart_chip.specs.Switching.{SameSizes}
 use Rattle.uart_chip.proofs.lasting.FifoSizes.{same_size}
 use Rattle.uart_chip.proofs.lasting.Flows.{flow-path}

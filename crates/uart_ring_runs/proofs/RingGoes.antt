@@ -1,7 +1,7 @@
 -- What the calls of a session of rings do in turn: those of the rings themselves, and those of the driver under them.
-use Rattle.uart_ring_runs.proofs.Names.{◌≡◌, ◌≢◌, ◌⊎◌, ℕ, Bool, List, [], ◌∷◌, ◌++◌, append_assoc, append-nil, inl, inr, Ok, Err, refl, sym}
-use Rattle.uart_ring_runs.proofs.Names.{◌∙◌, ap, subst, bit_and, bit_or, Result, or_zero_r, saved_lsr, saved_msr, Access, FifosOffError}
-use Rattle.uart_ring_runs.proofs.Names.{FifoTriggerLevel, Settings, Fields, fields, SetsTrigger, inner_of, Call, Answer, MachineStep}
+use Rattle.uart_ring_runs.proofs.Names.{◌≡◌, ◌≢◌, ◌⊎◌, ℕ, Bool, List, [], ◌∷◌, ◌++◌, append_assoc, append-nil, inl, inr, refl, sym}
+use Rattle.uart_ring_runs.proofs.Names.{◌∙◌, ap, subst, bit_and, bit_or, or_zero_r, saved_lsr, saved_msr, Access}
+use Rattle.uart_ring_runs.proofs.Names.{Settings, Fields, fields, inner_of, Call, Answer, MachineStep}
 use Rattle.uart_ring_runs.proofs.Names.{or_assoc, Modes, fixed, passed-refl, IsOpen, PassedBlocks, stands-after, BurstsFit, State, CallStep}
 use Rattle.uart_ring_runs.proofs.Names.{GoesOn, IsWithinSession, reported_by, received_by, keeps_size, fits_by, fits_kept, InSession}
 use Rattle.uart_ring_runs.proofs.Names.{session_closed, GoOn, go_within, passed_onwards, same_fifo, RingFields, ring_fields, waiting}
@@ -9,12 +9,11 @@ use Rattle.uart_ring_runs.proofs.Names.{data_written, data_read, RingCall, RingA
 use Rattle.uart_ring_runs.proofs.Names.{IsOfRings, RingCallStep, RingLink, RingChain, to_send, to_take, queued_by, taken_by, queued, taken}
 use Rattle.uart_ring_runs.proofs.Names.{gone_in, gone_by, gone, KeepsOrder, AllKeepOrder, ReceivesNothing, TakesInTurn, AllTakeInTurn}
 use Rattle.uart_ring_runs.proofs.Names.{IsWithinRingSession, AllWithinRingSession, NeitherIs, NoneIs}
-use Rattle.uart_spec.specs.declared.errors.AttachError.{AttachError}
-use Rattle.uart_spec.specs.declared.errors.AttachError.TheVariants.{DivisorLatchOpen}
 use Rattle.uart_spec.specs.declared.registers.line_status.TheConstants.LSR
 use Rattle.uart_spec.specs.declared.registers.modem_status.TheConstants.MSR
-use Rattle.uart_16550.specs.Attach.{Attaches}
-use Rattle.uart_events.specs.declared.call.Call.TheVariants as driver
+use Rattle.uart_call.specs.declared.call.Call.TheVariants as driver
+use Rattle.uart_run.specs.Progress.{KeepsChecks}
+use Rattle.uart_run.proofs.SizeKept.{checks_left}
 use Rattle.uart_ring.proofs.RegisterBits.{more_saved, saved_lsr-append, saved_lsr-within, saved_msr-append, saved_msr-within}
 use Rattle.uart_ring_runs.specs.declared.call.RingCall.TheVariants as call
 use Rattle.uart_ring_runs.proofs.{RingMeanings.in_order, RingLasts.driver_step, RingLasts.first_within, RingRts.modes_at}
@@ -88,44 +87,17 @@ of_rings x s t c a p = record {
 
 -- ---- a call of the driver
 
--- it keeps whether CTS is checked
-checks_level : (level : FifoTriggerLevel) (result : Result (Unit {0}) FifosOffError) (f after : Fields) (l : List Access) →
-    SetsTrigger level result f l after → checks_of after ≡ checks_of f
-checks_level level (Ok u) f after l d =
-    ap (λ (g : Fields). checks_of g) d.1.second.1 ∙ ap (λ (g : Fields). checks_of g) d.1.first.1
-checks_level level (Err e) f after l d = ap (λ (g : Fields). checks_of g) d.2
-
-checks_attached : (result : Result (ℕ × ℕ) AttachError) (f after : Fields) (l : List Access) → Attaches result f l after →
-    checks_of after ≡ checks_of f
-checks_attached (Ok latch) f after l d =
-    ap (λ (g : Fields). checks_of g) d.2.second.1 ∙ ap (λ (g : Fields). checks_of g) d.2.first.1
-checks_attached (Err DivisorLatchOpen) f after l d = ap (λ (g : Fields). checks_of g) d.1
-checks_attached _ f after l d = ap (λ (g : Fields). checks_of g) d.1
+-- it keeps whether CTS is checked, since no session goes on through an `init`
+goes_keeps : (W : Type 0) (c : Call) → GoesOn W c → KeepsChecks c
+goes_keeps W (driver.Init config) i = absurd i
+goes_keeps W (driver.InitWith config setup) i = absurd i
+goes_keeps W other i = tt
 
 driver_checks : (W : Type 0) (s t : State) (c : Call) (a : Answer) → GoesOn W c → CallStep s c a t →
     checks_of (fields (inner_of t)) ≡ checks_of (fields (inner_of s))
 driver_checks W s t driver.Next a i h = ap (λ (g : Fields). checks_of g) h.driver
-driver_checks W s t (driver.Init config) a i h = absurd i
-driver_checks W s t (driver.InitWith config setup) a i h = absurd i
-driver_checks W s t (driver.SetFrame config) a i h = absurd i
-driver_checks W s t (driver.SetFrameWhenIdle config) a i h = absurd i
-driver_checks W s t (driver.Restore dump) a i h = absurd i
-driver_checks W s t driver.TestLoopback a i h = absurd i
-driver_checks W s t (driver.SetTriggerLevel level) a i h =
-    checks_level level h.outcome (fields (inner_of s)) (fields (inner_of t)) h.did.list h.did.does
-driver_checks W s t driver.Attach a i h =
-    checks_attached h.outcome (fields (inner_of s)) (fields (inner_of t)) h.did.list h.did.does
-driver_checks W s t (driver.Quiesce outputs fifos) a i h =
-    let does = h.did.does in
-    ap (λ (g : Fields). checks_of g) does.second.second.1
-    ∙ (ap (λ (g : Fields). checks_of g) does.second.first.1 ∙ ap (λ (g : Fields). checks_of g) does.first.1)
-driver_checks W s t driver.Lsr a i h = ap (λ (g : Fields). checks_of g) h.did.does.3
-driver_checks W s t driver.Msr a i h = ap (λ (g : Fields). checks_of g) h.did.does.3
-driver_checks W s t driver.FifoEnabled a i h = ap (λ (g : Fields). checks_of g) h.did.does.1.1
-driver_checks W s t driver.Dump a i h = ap (λ (g : Fields). checks_of g) h.did.does.keeps
-driver_checks W s t (driver.Enable bits) a i h = ap (λ (g : Fields). checks_of g) h.did.does.2
-driver_checks W s t (driver.Disable bits) a i h = ap (λ (g : Fields). checks_of g) h.did.does.2
-driver_checks W s t other a i h = ap (λ (g : Fields). checks_of g) h.did.does.1
+driver_checks W s t c a i h =
+    checks_left c (goes_keeps W c i) h.outcome (fields (inner_of s)) h.did.list (fields (inner_of t)) h.did.does
 
 -- one that receives nothing has received nothing
 none_received : (c : Call) (a : Answer) → ReceivesNothing c → received_by c a ≡ []

@@ -3,7 +3,7 @@ use Rattle.uart_ring_runs.proofs.Names.{List, [], ◌∷◌, ◌++◌, sym, subs
 use Rattle.uart_ring_runs.proofs.Names.{IsWired, chain_keeps, Lasts, goes_on, lasts_call, lasts_wired, RingCall, RingAnswer, RingState}
 use Rattle.uart_ring_runs.proofs.Names.{under, ring_machine, IsOfRings, DriverCalled, RingCallStep, RingLink, RingChain}
 use Rattle.uart_ring_runs.proofs.Names.{IsWithinRingSession, AllWithinRingSession}
-use Rattle.uart_events.specs.declared.call.Call.TheVariants as driver
+use Rattle.uart_call.specs.declared.call.Call.TheVariants as driver
 use Rattle.uart_calls.specs.Meaning.{Called, IsOfDriver, meaning}
 use Rattle.uart_ring_runs.specs.declared.call.RingCall.TheVariants as call
 

@@ -5,7 +5,7 @@ use Rattle.uart_ring_runs.proofs.Names.{RingDoing, RingDid, ring_fields, ring_ba
 use Rattle.uart_ring_runs.proofs.Names.{TellsIfAny, AdjustsXoff, xon, Obeys, ObeysXoff, Holds, Releases, ReceiveMarks, LosesOnly, Implies}
 use Rattle.uart_ring_runs.proofs.Names.{LeavesArmed, Arms, RingCall, RingAnswer, RingPerformed, queued_by, gone_in, to_send_with}
 use Rattle.uart_ring_runs.proofs.Names.{KeepsOrder, SendsNothing, RearmsRing, IsPlain}
-use Rattle.uart_events.specs.declared.call.Call.TheVariants as driver
+use Rattle.uart_call.specs.declared.call.Call.TheVariants as driver
 use Rattle.uart_ring.specs.declared.ring.Uart16550Ring.{Uart16550Ring}
 use Rattle.uart_ring.proofs.Arming as arming
 use Rattle.uart_ring.proofs.Losses as losses

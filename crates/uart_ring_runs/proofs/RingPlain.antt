@@ -1,7 +1,7 @@
 -- That rings which only queue, serve and take are two queues.
 use Rattle.uart_ring_runs.proofs.Names.{◌≡◌, ◌⊎◌, ℕ, zero, suc, Bool, true, false, List, [], ◌∷◌, ◌++◌, inl, inr, refl, sym, ◌∙◌, ap, subst}
 use Rattle.uart_ring_runs.proofs.Names.{map, length, take, Option, None, Some, option_to_list, AllByRecursion, InterruptType, Uart16550}
-use Rattle.uart_ring_runs.proofs.Names.{cut_of, out, MachineState, NoneIs, RingDoing, RingFields, RingTimes, IfAny, AreEmpty, ring_fields}
+use Rattle.uart_ring_runs.proofs.Names.{cut_of, out, MachineState, NoneIs, RingDoing, RingFields, IfAny, AreEmpty, ring_fields}
 use Rattle.uart_ring_runs.proofs.Names.{is_full, urgent_left, allowed, unless_held, sendable, with_queued, with_hold, without_taken, free}
 use Rattle.uart_ring_runs.proofs.Names.{Pumps, Queues, ResumesTransmit, Releases, SetsLowMark, TakesLow, PausesIfFull, FillsReceiveRing}
 use Rattle.uart_ring_runs.proofs.Names.{EndsPause, TakesBytes, rts_at, MakesRtsIfAny, AdjustsRts, ReceiveMarks, ServesInterrupt, ServesOne}
@@ -10,7 +10,7 @@ use Rattle.uart_ring_runs.proofs.Names.{Restarts, Implies, HandleEnd, Idle, Unkn
 use Rattle.uart_ring_runs.proofs.Names.{RingAnswer, RingState, ring_machine, RingCallStep, RingLink, RingChain, to_send, to_take, queued}
 use Rattle.uart_ring_runs.proofs.Names.{AllKeepOrder, TakesInTurn, AllTakeInTurn, thr_empty_of, IsRingArmed, KeepsArmed, AllLeaveRingArmed}
 use Rattle.uart_ring_runs.proofs.Names.{RingConserves, AreUntold, IsPlain, ArePlain, in_transmit_ring, IsEmptyOrDue, AllLeaveEmptyOrDue}
-use Rattle.uart_ring_runs.proofs.Names.{ConservesPlainly}
+use Rattle.uart_ring_runs.proofs.Names.{ConservesPlainly, SendsAndRetriggers, SendsOnIf, ServesData, ServesTimes}
 use Rattle.uart_spec.specs.declared.registers.interrupt_enable.TheConstants.IER
 use Rattle.uart_spec.specs.declared.registers.interrupt_type.InterruptType.TheVariants as interrupts
 use Rattle.uart_chip.specs.Conserved.{waiting}
@@ -75,46 +75,59 @@ takes_line_keep line f l after (status, told, (t, same)) w = as_before _ after s
 takes_modem_keep : (modem : ℕ) → Implies (TakesModem modem) KeepsUntold
 takes_modem_keep modem f l after (status, told, (t, same)) w = as_before _ after same w
 
-serves_keep : (interrupt : InterruptType) → Implies (ServesInterrupt interrupt) KeepsUntold
-serves_keep interrupts.ReceiverLineStatus f l after t w = as_before _ after t.1.1 w
-serves_keep interrupts.ReceivedDataReady f l after t w = fills_keep f l after t w
-serves_keep interrupts.ReceptionTimeout f l after t w = fills_keep f l after t w
-serves_keep interrupts.TransmitterHoldingRegisterEmpty f l after t w = pumps_keep f l after t w
-serves_keep interrupts.ModemStatus f l after t w = as_before _ after t.1.1 w
-serves_keep interrupts.DmaReceptionEndOfTransfer f l after t w = as_before f after t.1 w
-serves_keep interrupts.DmaTransmissionEndOfTransfer f l after t w = as_before f after t.1 w
+sends_on_keep : (room : Bool) → Implies (SendsOnIf room) KeepsUntold
+sends_on_keep true f l after (zero, t) w = as_before _ after t.1 w
+sends_on_keep true f l after (suc n, t) w = pumps_keep f l after (suc n, t) w
+sends_on_keep false f l after t w = as_before f after t.1 w
 
-serves_one_keeps : Implies ServesOne KeepsUntold
-serves_one_keeps f l after (interrupt, t) w = serves_keep interrupt t.mid t.back after t.second (as_before _ t.mid t.first.1 w)
+serves_data_keeps : (room : Bool) → Implies (ServesData room) KeepsUntold
+serves_data_keeps room f l after t w = sends_on_keep room t.mid t.back after t.second (fills_keep f t.front t.mid t.first w)
 
-times_keep : (n : ℕ) → Implies (RingTimes n ServesOne) KeepsUntold
-times_keep zero f l after t w = as_before f after t.1 w
-times_keep (suc n) f l after t w = times_keep n t.mid t.back after t.second (serves_one_keeps f t.front t.mid t.first w)
+serves_keep : (sends room left : Bool) (interrupt : InterruptType) → Implies (ServesInterrupt sends room left interrupt) KeepsUntold
+serves_keep sends room left interrupts.ReceiverLineStatus f l after t w = as_before _ after t.2.1 w
+serves_keep sends room left interrupts.ReceivedDataReady f l after t w = serves_data_keeps room f l after t.1 w
+serves_keep sends room left interrupts.ReceptionTimeout f l after t w = serves_data_keeps room f l after t.1 w
+serves_keep sends room left interrupts.TransmitterHoldingRegisterEmpty f l after t w = pumps_keep f l after t.1 w
+serves_keep sends room left interrupts.ModemStatus f l after t w = as_before _ after t.1.1.1 w
+serves_keep sends room left interrupts.DmaReceptionEndOfTransfer f l after t w = as_before f after t.1.1 w
+serves_keep sends room left interrupts.DmaTransmissionEndOfTransfer f l after t w = as_before f after t.1.1 w
+
+serves_one_keeps : (sends room left : Bool) → Implies (ServesOne sends room left) KeepsUntold
+serves_one_keeps sends room left f l after (interrupt, t) w =
+    serves_keep sends room left interrupt t.mid t.back after t.second (as_before _ t.mid t.first.1 w)
+
+times_keep : (sends : Bool) (n : ℕ) (room left : Bool) → Implies (ServesTimes sends n room left) KeepsUntold
+times_keep sends zero room left f l after t w = as_before f after t.1.1 w
+times_keep sends (suc n) room left f l after (next, t) w =
+    times_keep sends n next left t.mid t.back after t.second (serves_one_keeps sends room next f t.front t.mid t.first w)
 
 stops_keep : (end : HandleEnd) → Implies (Stops end) KeepsUntold
 stops_keep Idle f l after t w = as_before _ after t.1 w
 stops_keep Unknown f l after t w = as_before _ after t.1 w
 stops_keep Limit f l after t w = as_before f after t.1 w
 
-serves_up_to_keep : (limit : ℕ) (handled : Handled) → Implies (ServesUpTo limit handled) KeepsUntold
-serves_up_to_keep limit handled f l after t w =
+serves_up_to_keep : (sends : Bool) (limit : ℕ) (handled : Handled) (room : Bool) → Implies (ServesUpTo sends limit handled room) KeepsUntold
+serves_up_to_keep sends limit handled room f l after t w =
     let u = t.1 in
-    stops_keep handled.end u.mid u.back after u.second (times_keep handled.served f u.front u.mid u.first w)
+    stops_keep handled.end u.mid u.back after u.second (times_keep sends handled.served false room f u.front u.mid u.first w)
 
 services_keep : (count : ℕ) → Implies (Services count) KeepsUntold
-services_keep count f l after (end, t) w = serves_up_to_keep _ (record { served = count; end = end }) f l after t w
+services_keep count f l after (end, room, t) w = serves_up_to_keep false _ (record { served = count; end = end }) room f l after t w
 
 retriggers_keep : Implies Retriggers KeepsUntold
 retriggers_keep f l after t w = as_before _ after t.1 w
 
-unless_idle_keep : (end : HandleEnd) → Implies (RetriggersUnlessIdle end) KeepsUntold
-unless_idle_keep Idle f l after t w = as_before f after t.1 w
-unless_idle_keep Unknown f l after t w = retriggers_keep f l after t w
-unless_idle_keep Limit f l after t w = retriggers_keep f l after t w
+sends_and_retriggers_keep : (room : Bool) → Implies (SendsAndRetriggers room) KeepsUntold
+sends_and_retriggers_keep room f l after t w = retriggers_keep t.mid t.back after t.second (sends_on_keep room f t.front t.mid t.first w)
+
+unless_idle_keep : (room : Bool) (end : HandleEnd) → Implies (RetriggersUnlessIdle room end) KeepsUntold
+unless_idle_keep room Idle f l after t w = as_before f after t.1 w
+unless_idle_keep room Unknown f l after t w = sends_and_retriggers_keep room f l after t w
+unless_idle_keep room Limit f l after t w = sends_and_retriggers_keep room f l after t w
 
 handles_keep : (limit : ℕ) (handled : Handled) → Implies (Handles limit handled) KeepsUntold
-handles_keep limit handled f l after t w =
-    unless_idle_keep handled.end t.mid t.back after t.second (serves_up_to_keep limit handled f t.front t.mid t.first w)
+handles_keep limit handled f l after (room, t) w =
+    unless_idle_keep room handled.end t.mid t.back after t.second (serves_up_to_keep true limit handled room f t.front t.mid t.first w)
 
 restarts_keep : (bits : ℕ) → Implies (Restarts bits) KeepsUntold
 restarts_keep bits f l after t w = resumes_keep t.mid t.back after t.second (as_before _ t.mid t.first.1 (w.0, w.1, refl))

@@ -2,7 +2,7 @@
 use Rattle.uart_ring_runs.proofs.Names.{◌≡◌, false, Ok, refl, sym, ◌∙◌, subst, Config, Did, backend_of, Inits, Uart16550, Done}
 use Rattle.uart_ring_runs.proofs.Names.{MachineState, MachineStep, IsSound, driver_of, RingState, under, IsTimely, BurstsFit, IsInitialised}
 use Rattle.uart_ring_runs.proofs.Names.{under_terminal, State, CallStep, IsUnhindered, fits_kept, initialises}
-use Rattle.uart_events.specs.declared.call.Call.TheVariants as call
+use Rattle.uart_call.specs.declared.call.Call.TheVariants as call
 use Rattle.uart_run.proofs.progress.Timely.{timely_kept, flow_kept}
 
 pub init_leaves : (before after : Uart16550 MachineState) (config : Config) (ring : RingState) → IsSound (backend_of before) →

@@ -10,7 +10,7 @@ use Rattle.uart_ring_runs.proofs.Names.{KeepsRingSize, KeepsRingChecks, RingStat
 use Rattle.uart_ring_runs.proofs.Names.{IsWithinRingSession, AllWithinRingSession, SendsInLine, AllRingFollow, RanRing}
 use Rattle.uart_spec.specs.declared.registers.modem_control.TheConstants.MCR
 use Rattle.uart_16550.specs.Expansion.{expansion}
-use Rattle.uart_events.specs.declared.call.Call.TheVariants as driver
+use Rattle.uart_call.specs.declared.call.Call.TheVariants as driver
 use Rattle.uart_chip.proofs.AutoFlow.{never_on}
 use Rattle.uart_run.specs.Unhindered as run
 use Rattle.uart_run.specs.Unhindered.{Ends}

@@ -2,15 +2,16 @@
 use Rattle.uart_ring_runs.proofs.Names.{◌≡◌, ℕ, zero, suc, nat_lt, Bool, true, false, MatchBool, List, [], ◌∷◌, ◌++◌, length, take, min}
 use Rattle.uart_ring_runs.proofs.Names.{refl, sym, subst, Option, Some, None, Result, MatchOption, Access, Read, characters, InterruptType}
 use Rattle.uart_ring_runs.proofs.Names.{Only, Fields, Doing, Saving, Receives, Sends, Enables, Disables, TakesLsr, TakesMsr, RingDoing}
-use Rattle.uart_ring_runs.proofs.Names.{RingFields, OnDriver, Stays, RingSets, RingTimes, IfAny, free, is_full, waiting, sendable}
+use Rattle.uart_ring_runs.proofs.Names.{RingFields, OnDriver, Stays, RingSets, IfAny, free, is_full, waiting, sendable}
 use Rattle.uart_ring_runs.proofs.Names.{without_sent, without_taken, with_queued, with_hold, with_urgent, with_low_mark, with_low}
 use Rattle.uart_ring_runs.proofs.Names.{with_rounds, with_paused, cleared, Implies, ArmsIfLeft, Pumps, Queues, ResumesTransmit, Holds}
 use Rattle.uart_ring_runs.proofs.Names.{Releases, QueuesUrgent, ClearsTransmit, SetsLowMark, TakesLow, PausesIfFull, FillsReceiveRing}
-use Rattle.uart_ring_runs.proofs.Names.{EndsPause, TakesBytes, ClearsReceive, TakesLine, TakesModem, ServesInterrupt, ServesOne, Stops}
+use Rattle.uart_ring_runs.proofs.Names.{EndsPause, TakesBytes, ClearsReceive, TakesLine}
+use Rattle.uart_ring_runs.proofs.Names.{TakesModem, ServesInterrupt, ServesOne, Stops, SendsOnIf}
 use Rattle.uart_ring_runs.proofs.Names.{ServesUpTo, Services, Retriggers, RetriggersUnlessIdle, Handles, every_bit, LooksOnceMore}
 use Rattle.uart_ring_runs.proofs.Names.{CountsUnfinished, CountsRound, HandlesRound, StaysStuck, TriesToHandle, Restarts, not_paused}
 use Rattle.uart_ring_runs.proofs.Names.{counts_as, has_moved, round_limit, StuckError, MAX_INTERRUPTS, HandleEnd, Idle, Unknown, Limit}
-use Rattle.uart_ring_runs.proofs.Names.{Handled}
+use Rattle.uart_ring_runs.proofs.Names.{Handled, SendsAndRetriggers, ServesData, ServesTimes}
 use Rattle.uart_spec.specs.declared.registers.interrupt_enable.TheConstants.IER
 use Rattle.uart_spec.specs.declared.registers.interrupt_type.InterruptType.TheVariants as interrupts
 use Rattle.uart_spec.specs.declared.registers.offsets.TheConstants as offsets
@@ -85,40 +86,55 @@ module _ (P : Doing) (w : Walks P) where
       (w.receives (min (characters f.driver.size) (free f.receive)) bytes f.driver t.front t.mid.driver t.first.0)
       (pauses t.mid t.back after t.second))
 
-  serves : (interrupt : InterruptType) → Implies (ServesInterrupt interrupt) (InRings P)
-  serves interrupts.ReceiverLineStatus f l after (status, (t, same)) = w.lsr status f.driver l after.driver t
-  serves interrupts.ReceivedDataReady f l after t = fills f l after t
-  serves interrupts.ReceptionTimeout f l after t = fills f l after t
-  serves interrupts.TransmitterHoldingRegisterEmpty f l after t = pumps f l after t
-  serves interrupts.ModemStatus f l after (status, (t, same)) = w.msr status f.driver l after.driver t
-  serves interrupts.DmaReceptionEndOfTransfer f l after t = stays f l after t
-  serves interrupts.DmaTransmissionEndOfTransfer f l after t = stays f l after t
+  pub sends_on : (room : Bool) → Implies (SendsOnIf room) (InRings P)
+  sends_on true f l after (zero, t) = w.sends (sendable f) 0 f.driver l after.driver t.0
+  sends_on true f l after (suc n, t) = pumps f l after (suc n, t)
+  sends_on false f l after t = stays f l after t
 
-  serves_one : Implies ServesOne (InRings P)
-  serves_one f l after (interrupt, t) =
+  serves_data : (room : Bool) → Implies (ServesData room) (InRings P)
+  serves_data room f l after t =
+      rw t.whole (w.next f.driver t.mid.driver after.driver t.front t.back (fills f t.front t.mid t.first)
+      (sends_on room t.mid t.back after t.second))
+
+  serves : (sends room left : Bool) (interrupt : InterruptType) → Implies (ServesInterrupt sends room left interrupt) (InRings P)
+  serves sends room left interrupts.ReceiverLineStatus f l after (status, is, (t, same)) = w.lsr status f.driver l after.driver t
+  serves sends room left interrupts.ReceivedDataReady f l after (is, t) = serves_data room f l after t
+  serves sends room left interrupts.ReceptionTimeout f l after (is, t) = serves_data room f l after t
+  serves sends room left interrupts.TransmitterHoldingRegisterEmpty f l after (is, t) = pumps f l after t
+  serves sends room left interrupts.ModemStatus f l after (is, (status, (t, same))) = w.msr status f.driver l after.driver t
+  serves sends room left interrupts.DmaReceptionEndOfTransfer f l after (is, t) = stays f l after t
+  serves sends room left interrupts.DmaTransmissionEndOfTransfer f l after (is, t) = stays f l after t
+
+  serves_one : (sends room left : Bool) → Implies (ServesOne sends room left) (InRings P)
+  serves_one sends room left f l after (interrupt, t) =
       rw t.whole (w.next f.driver t.mid.driver after.driver t.front t.back (w.isr t.first.0.0 f.driver t.front t.mid.driver t.first.0.2)
-      (serves interrupt t.mid t.back after t.second))
+      (serves sends room left interrupt t.mid t.back after t.second))
 
-  pub times : (n : ℕ) → Implies (RingTimes n ServesOne) (InRings P)
-  times zero f l after t = stays f l after t
-  times (suc n) f l after t =
-      rw t.whole (w.next f.driver t.mid.driver after.driver t.front t.back (serves_one f t.front t.mid t.first)
-      (times n t.mid t.back after t.second))
+  pub times : (sends : Bool) (n : ℕ) (room left : Bool) → Implies (ServesTimes sends n room left) (InRings P)
+  times sends zero room left f l after (is, t) = stays f l after t
+  times sends (suc n) room left f l after (next, t) =
+      rw t.whole (w.next f.driver t.mid.driver after.driver t.front t.back (serves_one sends room next f t.front t.mid t.first)
+      (times sends n next left t.mid t.back after t.second))
 
   stops : (end : HandleEnd) → Implies (Stops end) (InRings P)
   stops Idle f l after ((isr, shown, idle, t), same) = w.isr isr f.driver l after.driver t
   stops Unknown f l after ((isr, shown, idle, t), same) = w.isr isr f.driver l after.driver t
   stops Limit f l after t = stays f l after t
 
-  serves_up_to : (limit : ℕ) (handled : Handled) → Implies (ServesUpTo limit handled) (InRings P)
-  serves_up_to limit handled f l after (within, t) =
-      rw t.whole (w.next f.driver t.mid.driver after.driver t.front t.back (times handled.served f t.front t.mid t.first)
+  serves_up_to : (sends : Bool) (limit : ℕ) (handled : Handled) (room : Bool) → Implies (ServesUpTo sends limit handled room) (InRings P)
+  serves_up_to sends limit handled room f l after (within, t) =
+      rw t.whole (w.next f.driver t.mid.driver after.driver t.front t.back (times sends handled.served false room f t.front t.mid t.first)
       (stops handled.end t.mid t.back after t.second))
 
-  unless_idle : (end : HandleEnd) → Implies (RetriggersUnlessIdle end) (InRings P)
-  unless_idle Idle f l after t = stays f l after t
-  unless_idle Unknown f l after t = w.retriggers f.driver l after.driver t.0
-  unless_idle Limit f l after t = w.retriggers f.driver l after.driver t.0
+  sends_and_retriggers : (room : Bool) → Implies (SendsAndRetriggers room) (InRings P)
+  sends_and_retriggers room f l after t =
+      rw t.whole (w.next f.driver t.mid.driver after.driver t.front t.back (sends_on room f t.front t.mid t.first)
+      (w.retriggers t.mid.driver t.back after.driver t.second.0))
+
+  unless_idle : (room : Bool) (end : HandleEnd) → Implies (RetriggersUnlessIdle room end) (InRings P)
+  unless_idle room Idle f l after t = stays f l after t
+  unless_idle room Unknown f l after t = sends_and_retriggers room f l after t
+  unless_idle room Limit f l after t = sends_and_retriggers room f l after t
 
   looks : (found : Option StuckError) → Implies (LooksOnceMore found) (InRings P)
   looks None f l after ((isr, shown, idle, t), same) = w.isr isr f.driver l after.driver t
@@ -142,15 +158,15 @@ module _ (P : Doing) (w : Walks P) where
   -- ---- each call
 
   pub services : (count : ℕ) → Implies (Services count) (InRings P)
-  services count f l after (end, t) = serves_up_to MAX_INTERRUPTS (record { served = count; end = end }) f l after t
+  services count f l after (end, room, t) = serves_up_to false MAX_INTERRUPTS (record { served = count; end = end }) room f l after t
 
   pub retriggers : Implies Retriggers (InRings P)
   retriggers f l after t = w.retriggers f.driver l after.driver t.0
 
   pub handles : (limit : ℕ) (handled : Handled) → Implies (Handles limit handled) (InRings P)
-  handles limit handled f l after t =
-      rw t.whole (w.next f.driver t.mid.driver after.driver t.front t.back (serves_up_to limit handled f t.front t.mid t.first)
-      (unless_idle handled.end t.mid t.back after t.second))
+  handles limit handled f l after (room, t) =
+      rw t.whole (w.next f.driver t.mid.driver after.driver t.front t.back (serves_up_to true limit handled room f t.front t.mid t.first)
+      (unless_idle room handled.end t.mid t.back after t.second))
 
   pub queues : (bytes : List ℕ) (count : ℕ) → Implies (Queues bytes count) (InRings P)
   queues bytes count f l after (is, t) = any count pumps (with_queued (take count bytes) f) l after t

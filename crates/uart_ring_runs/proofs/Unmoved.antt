@@ -6,9 +6,10 @@ use Rattle.uart_ring_runs.proofs.Names.{nat_tests, length-drop, nil_from_length,
 use Rattle.uart_ring_runs.proofs.Names.{has_any, Access, Read, Write, characters, InterruptType, Event, Mark, Gate, Settings, Fields}
 use Rattle.uart_ring_runs.proofs.Names.{settings_of, Receives, Sends, interrupt, is_thr_empty, between, at_least_16, MachineState}
 use Rattle.uart_ring_runs.proofs.Names.{MachineStep, at_access, after_access, path_as, path_split, Ready, Queue, RingFields, RingDid}
-use Rattle.uart_ring_runs.proofs.Names.{OnDriver, RingTimes, ring_fields, free, is_full, with_driver, sendable, allowed, without_sent}
+use Rattle.uart_ring_runs.proofs.Names.{OnDriver, ring_fields, free, is_full, with_driver, sendable, allowed, without_sent}
 use Rattle.uart_ring_runs.proofs.Names.{with_received, with_paused, Stays, urgent_left, ArmsIfLeft, Pumps, PausesIfFull, FillsReceiveRing}
-use Rattle.uart_ring_runs.proofs.Names.{ServesInterrupt, ServesOne, Stops, IsWithin, Handles, RetriggersUnlessIdle, has_moved, counts_as}
+use Rattle.uart_ring_runs.proofs.Names.{SendsOnIf, ServesData, ServesInterrupt, ServesOne, ServesTimes}
+use Rattle.uart_ring_runs.proofs.Names.{Stops, IsWithin, Handles, RetriggersUnlessIdle, has_moved, counts_as}
 use Rattle.uart_ring_runs.proofs.Names.{CountsRound, HandlesRound, StaysStuck, TriesToHandle, unless_stuck, round_limit, HandleEnd, Idle}
 use Rattle.uart_ring_runs.proofs.Names.{Unknown, Limit, Handled, StuckError, RingState, under, ring_machine, news, news_between}
 use Rattle.uart_ring_runs.proofs.Names.{most_without_news, IsInRoom, Disables, is_data_pending, is_timed_out, without, Kept, kept_step}
@@ -237,54 +238,88 @@ fills_left f after l m o n isr d (bytes, t) still room path =
 
 -- ---- one interrupt
 
-serve_moves : (interrupt : InterruptType) (f : RingFields) (l : List Access) (after : RingFields) → ServesInterrupt interrupt f l after →
-    Moves f after
-serve_moves interrupts.ReceiverLineStatus f l after (status, (t, same)) = moves_by f _ after same refl refl refl
-serve_moves interrupts.ReceivedDataReady f l after t = fills_moves f l after t
-serve_moves interrupts.ReceptionTimeout f l after t = fills_moves f l after t
-serve_moves interrupts.TransmitterHoldingRegisterEmpty f l after (sent, (t, same)) =
+sends_on_moves : (room : Bool) (f : RingFields) (l : List Access) (after : RingFields) → SendsOnIf room f l after → Moves f after
+sends_on_moves true f l after (zero, t) = moves_by f _ after t.1 refl refl refl
+sends_on_moves true f l after (suc n, (t, same)) =
+    moves_as f _ after same (moves_with f (without_sent (suc n) f) after.driver (sent_moves (suc n) f))
+sends_on_moves false f l after t = moves_by f f after t.1 refl refl refl
+
+serves_data_moves : (room : Bool) (f : RingFields) (l : List Access) (after : RingFields) → ServesData room f l after → Moves f after
+serves_data_moves room f l after t =
+    moves-trans f t.mid after (fills_moves f t.front t.mid t.first) (sends_on_moves room t.mid t.back after t.second)
+
+serve_moves : (room left : Bool) (interrupt : InterruptType) (f : RingFields) (l : List Access) (after : RingFields) →
+    ServesInterrupt true room left interrupt f l after → Moves f after
+serve_moves room left interrupts.ReceiverLineStatus f l after (status, told, (t, same)) = moves_by f _ after same refl refl refl
+serve_moves room left interrupts.ReceivedDataReady f l after (is, t) = serves_data_moves room f l after t
+serve_moves room left interrupts.ReceptionTimeout f l after (is, t) = serves_data_moves room f l after t
+serve_moves room left interrupts.TransmitterHoldingRegisterEmpty f l after (is, (sent, (t, same))) =
     moves_as f _ after same (moves_with f (without_sent sent f) after.driver (sent_moves sent f))
-serve_moves interrupts.ModemStatus f l after (status, (t, same)) = moves_by f _ after same refl refl refl
-serve_moves interrupts.DmaReceptionEndOfTransfer f l after t = moves_by f f after t.1 refl refl refl
-serve_moves interrupts.DmaTransmissionEndOfTransfer f l after t = moves_by f f after t.1 refl refl refl
+serve_moves room left interrupts.ModemStatus f l after (is, (status, (t, same))) = moves_by f _ after same refl refl refl
+serve_moves room left interrupts.DmaReceptionEndOfTransfer f l after (is, t) = moves_by f f after t.1 refl refl refl
+serve_moves room left interrupts.DmaTransmissionEndOfTransfer f l after (is, t) = moves_by f f after t.1 refl refl refl
 
-one_moves : (f : RingFields) (l : List Access) (after : RingFields) → ServesOne f l after → Moves f after
-one_moves f l after (interrupt, t) =
-    moves-trans f t.mid after (moves_by f _ t.mid t.first.1 refl refl refl) (serve_moves interrupt t.mid t.back after t.second)
+one_moves : (room left : Bool) (f : RingFields) (l : List Access) (after : RingFields) → ServesOne true room left f l after → Moves f after
+one_moves room left f l after (interrupt, t) =
+    moves-trans f t.mid after (moves_by f _ t.mid t.first.1 refl refl refl) (serve_moves room left interrupt t.mid t.back after t.second)
 
-times_moves : (n : ℕ) (f : RingFields) (l : List Access) (after : RingFields) → RingTimes n ServesOne f l after → Moves f after
-times_moves zero f l after t = moves_by f f after t.1 refl refl refl
-times_moves (suc n) f l after t =
-    moves-trans f t.mid after (one_moves f t.front t.mid t.first) (times_moves n t.mid t.back after t.second)
+times_moves : (n : ℕ) (room left : Bool) (f : RingFields) (l : List Access) (after : RingFields) → ServesTimes true n room left f l after →
+    Moves f after
+times_moves zero room left f l after t = moves_by f f after t.1.1 refl refl refl
+times_moves (suc n) room left f l after (next, t) =
+    moves-trans f t.mid after (one_moves room next f t.front t.mid t.first) (times_moves n next left t.mid t.back after t.second)
 
-interrupt_left : (i : InterruptType) (f after : RingFields) (l : List Access) (m o n : MachineState) (isr : ℕ) → IsOpenAt m →
-    ServesInterrupt i f l after → Still f after → length f.receive.items ≤ f.receive.capacity → interrupt (at_access m).chip ≡ Some i →
-    MachineStep m (Read offsets.ISR isr) o → Path MachineStep o l n → Leaves m n 1
-interrupt_left interrupts.ReceiverLineStatus f after l m o n isr a (status, ((line, is, told, emptied), same)) still room e s path =
-    line_served m o n isr line a e s (path_as o n l (Read offsets.LSR line ∷ []) is path)
-interrupt_left interrupts.ReceivedDataReady f after l m o n isr a t still room e s path =
+-- if no byte moved, there were only looks
+sends_on_left : (room : Bool) (f after : RingFields) (l : List Access) (m n : MachineState) → SendsOnIf room f l after → Still f after →
+    IsOpenAt m → Path MachineStep m l n → Leaves m n 0
+sends_on_left true f after l m n (zero, t) still o path =
+    looks_left l m n (unsent_looks (sendable f) (settings_of f.driver) l t.0.0) o path
+sends_on_left true f after l m n (suc k, (t, same)) still o path =
+    let there = still_as f (with_driver after.driver (without_sent (suc k) f)) after same still in
+    let none = unsent (suc k) f (settings_of f.driver) t.front t.first.0
+    (record { transmit = there.transmit; urgent = there.urgent; receive = there.receive }) in
+    absurd (omega (arith, none))
+sends_on_left false f after l m n t still o path = let at : n ≡ m = path_as m n l [] t.0 path in rw at (leaves-none m o)
+
+serves_data_left : (room : Bool) (f after : RingFields) (l : List Access) (m o n : MachineState) (isr : ℕ) → DataShown m o isr →
+    ServesData room f l after → Still f after → length f.receive.items ≤ f.receive.capacity → Path MachineStep o l n → Leaves m n 1
+serves_data_left room f after l m o n isr d t still space path =
+    let p = path_split MachineStep o n t.front t.back (subst (λ k. Path MachineStep o k n) t.whole path) in
+    let first = fills_moves f t.front t.mid t.first in
+    let second = sends_on_moves room t.mid t.back after t.second in
+    let filled = fills_left f t.mid t.front m o p.0 isr d t.first (still-first f t.mid after first second still) space p.1 in
+    leaves-trans m p.0 n 1 0 filled
+    (sends_on_left room t.mid after t.back p.0 n t.second (still-second f t.mid after first second still) filled.open_at p.2)
+
+interrupt_left : (room left : Bool) (i : InterruptType) (f after : RingFields) (l : List Access) (m o n : MachineState) (isr : ℕ) →
+    IsOpenAt m → ServesInterrupt true room left i f l after → Still f after → length f.receive.items ≤ f.receive.capacity →
+    interrupt (at_access m).chip ≡ Some i → MachineStep m (Read offsets.ISR isr) o → Path MachineStep o l n → Leaves m n 1
+interrupt_left room left interrupts.ReceiverLineStatus f after l m o n isr a (status, shows, ((line, is, told, emptied), same))
+    still space e s
+    path = line_served m o n isr line a e s (path_as o n l (Read offsets.LSR line ∷ []) is path)
+interrupt_left room left interrupts.ReceivedDataReady f after l m o n isr a t still space e s path =
     let told = and_parts _ _ (told_by (at_access m).chip interrupts.ReceivedDataReady e) in
     let other = not_thr (at_access m).chip interrupts.ReceivedDataReady e refl in
-    fills_left f after l m o n isr
-    (record { open_at = a; enabled = told.0; readable = inl told.1; other = other; step = s }) t still room path
-interrupt_left interrupts.ReceptionTimeout f after l m o n isr a t still room e s path =
+    serves_data_left room f after l m o n isr
+    (record { open_at = a; enabled = told.0; readable = inl told.1; other = other; step = s }) t.1 still space path
+interrupt_left room left interrupts.ReceptionTimeout f after l m o n isr a t still space e s path =
     let told = and_parts _ _ (told_by (at_access m).chip interrupts.ReceptionTimeout e) in
     let other = not_thr (at_access m).chip interrupts.ReceptionTimeout e refl in
-    fills_left f after l m o n isr
-    (record { open_at = a; enabled = told.0; readable = inr told.1; other = other; step = s }) t still room path
-interrupt_left interrupts.TransmitterHoldingRegisterEmpty f after l m o n isr a t still room e s path =
+    serves_data_left room f after l m o n isr
+    (record { open_at = a; enabled = told.0; readable = inr told.1; other = other; step = s }) t.1 still space path
+interrupt_left room left interrupts.TransmitterHoldingRegisterEmpty f after l m o n isr a t still space e s path =
     let served = thr_served m o isr a e s in
-    leaves-trans m o n 1 0 served.leaves (pump_left f after l o n t still served.leaves.open_at served.enabled path)
-interrupt_left interrupts.ModemStatus f after l m o n isr a (status, ((modem, is, told, emptied), same)) still room e s path =
-    modem_served m o n isr modem a e s (path_as o n l (Read offsets.MSR modem ∷ []) is path)
-interrupt_left interrupts.DmaReceptionEndOfTransfer f after l m o n isr a t still room e s path =
+    leaves-trans m o n 1 0 served.leaves (pump_left f after l o n t.1 still served.leaves.open_at served.enabled path)
+interrupt_left room left interrupts.ModemStatus f after l m o n isr a (kept, (status, ((modem, is, told, emptied), same))) still space e s
+    path = modem_served m o n isr modem a e s (path_as o n l (Read offsets.MSR modem ∷ []) is path)
+interrupt_left room left interrupts.DmaReceptionEndOfTransfer f after l m o n isr a t still space e s path =
     absurd (told_by (at_access m).chip interrupts.DmaReceptionEndOfTransfer e)
-interrupt_left interrupts.DmaTransmissionEndOfTransfer f after l m o n isr a t still room e s path =
+interrupt_left room left interrupts.DmaTransmissionEndOfTransfer f after l m o n isr a t still space e s path =
     absurd (told_by (at_access m).chip interrupts.DmaTransmissionEndOfTransfer e)
 
-one_left : (f after : RingFields) (l : List Access) (m n : MachineState) → ServesOne f l after → Still f after →
-    length f.receive.items ≤ f.receive.capacity → IsOpenAt m → Path MachineStep m l n → Leaves m n 1
-one_left f after l m n (i, t) still room a path =
+one_left : (room left : Bool) (f after : RingFields) (l : List Access) (m n : MachineState) → ServesOne true room left f l after →
+    Still f after → length f.receive.items ≤ f.receive.capacity → IsOpenAt m → Path MachineStep m l n → Leaves m n 1
+one_left room left f after l m n (i, t) still space a path =
     let p = path_split MachineStep m n t.front t.back (subst (λ k. Path MachineStep m k n) t.whole path) in
     let isr = t.first.0.0 in
     let q = path_as m p.0 t.front (Read offsets.ISR isr ∷ []) t.first.0.2.0.is p.1 in
@@ -296,23 +331,24 @@ one_left f after l m n (i, t) still room a path =
     } in
     let long : length t.mid.receive.items ≡ length f.receive.items = ap (λ (k : RingFields). length k.receive.items) same in
     let wide : t.mid.receive.capacity ≡ f.receive.capacity = ap (λ (k : RingFields). k.receive.capacity) same in
-    interrupt_left i t.mid after t.back m q.0 n isr a t.second begins (omega (arith, room, long, wide))
+    interrupt_left room left i t.mid after t.back m q.0 n isr a t.second begins (omega (arith, space, long, wide))
     (shown isr i m q.0 t.first.0.1 q.1) q.1 (subst (λ k. Path MachineStep k t.back n) q.2 p.2)
 
 -- ---- a round
 
-times_left : (k : ℕ) (f after : RingFields) (l : List Access) (m n : MachineState) → RingTimes k ServesOne f l after → Still f after →
-    length f.receive.items ≤ f.receive.capacity → IsOpenAt m → Path MachineStep m l n → Leaves m n k
-times_left zero f after l m n t still room a path =
-    let at : n ≡ m = path_as m n l [] t.0 path in rw at (leaves-none m a)
-times_left (suc k) f after l m n t still room a path =
+times_left : (k : ℕ) (room left : Bool) (f after : RingFields) (l : List Access) (m n : MachineState) →
+    ServesTimes true k room left f l after → Still f after → length f.receive.items ≤ f.receive.capacity → IsOpenAt m →
+    Path MachineStep m l n → Leaves m n k
+times_left zero room left f after l m n t still space a path =
+    let at : n ≡ m = path_as m n l [] t.1.0 path in rw at (leaves-none m a)
+times_left (suc k) room left f after l m n (next, t) still space a path =
     let p = path_split MachineStep m n t.front t.back (subst (λ xs. Path MachineStep m xs n) t.whole path) in
-    let first = one_moves f t.front t.mid t.first in
-    let second = times_moves k t.mid t.back after t.second in
-    let one = one_left f t.mid t.front m p.0 t.first (still-first f t.mid after first second still) room a p.1 in
+    let first = one_moves room next f t.front t.mid t.first in
+    let second = times_moves k next left t.mid t.back after t.second in
+    let one = one_left room next f t.mid t.front m p.0 t.first (still-first f t.mid after first second still) space a p.1 in
     let here = still-first f t.mid after first second still in
-    let rest = times_left k t.mid after t.back p.0 n t.second (still-second f t.mid after first second still)
-    (let e = here.receive in let w = first.capacity in omega (arith, room, e, w)) one.open_at p.2 in
+    let rest = times_left k next left t.mid after t.back p.0 n t.second (still-second f t.mid after first second still)
+    (let e = here.receive in let w = first.capacity in omega (arith, space, e, w)) one.open_at p.2 in
     let one_more : 1 + k ≡ suc k = omega arith in
     subst (λ (j : ℕ). Leaves m n j) one_more (leaves-trans m p.0 n 1 k one rest)
 
@@ -365,10 +401,11 @@ still_before f g h e s = record {
 round_left : (limit : ℕ) (handled : Handled) (f mid : RingFields) (l : List Access) (m o n : MachineState) → Handles limit handled f l mid →
     handled.end ≢ Idle → Still f mid → length f.receive.items ≤ f.receive.capacity → IsOpenAt m → Path MachineStep m l o → Came o n →
     limit ≤ most_without_news + news (between m n)
-round_left limit handled f mid l m o n t not_idle still room a path later = by handled.end refl t.first.0 t.first.1.second t.second
+round_left limit handled f mid l m o n (room, t) not_idle still space a path later =
+    by handled.end refl t.first.0 t.first.1.second t.second
   where
     by : (end : HandleEnd) → handled.end ≡ end → IsWithin limit handled.served end →
-        Stops end t.first.1.mid t.first.1.back t.mid → RetriggersUnlessIdle end t.mid t.back mid →
+        Stops end t.first.1.mid t.first.1.back t.mid → RetriggersUnlessIdle room end t.mid t.back mid →
         limit ≤ most_without_news + news (between m n)
     by Idle e within stops ends = absurd (not_idle e)
     by Unknown e within stops ends =
@@ -382,9 +419,12 @@ round_left limit handled f mid l m o n t not_idle still room a path later = by h
         let p = path_split MachineStep m o t.front t.back (subst (λ xs. Path MachineStep m xs o) t.whole path) in
         let u = t.first.1 in
         let q = path_split MachineStep m p.0 u.front u.back (subst (λ xs. Path MachineStep m xs p.0) u.whole p.1) in
-        let at_mid = still_before f t.mid mid ends.1 still in
+        let at_end = still_before f ends.mid mid ends.second.1 still in
+        let all = times_moves handled.served false room f u.front u.mid u.first in
+        let sent = sends_on_moves room t.mid ends.front ends.mid ends.first in
+        let at_mid = still-first f t.mid ends.mid (moves_as f u.mid t.mid stops.1 all) sent at_end in
         let at_last = still_as f u.mid t.mid stops.1 at_mid in
-        let served = times_left handled.served f u.mid u.front m q.0 u.first at_last room a q.1 in
+        let served = times_left handled.served false room f u.mid u.front m q.0 u.first at_last space a q.1 in
         let rest = came-trans q.0 p.0 n (path_came u.back q.0 p.0 q.2) (came-trans p.0 o n (path_came t.back p.0 o p.2) later) in
         let most = left_most m.chip in
         let few = news_within m q.0 n served.came served.ahead rest in

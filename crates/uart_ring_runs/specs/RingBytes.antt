@@ -1,9 +1,9 @@
 -- The bytes that ring calls accept and return, and those that the rings hold.
 use Rattle.std.specs.Prelude.{◌≡◌, ◌⊎◌, ⊤, ℕ, List, [], ◌∷◌, ◌++◌, take, flat_map, option_to_list}
 use Rattle.std.specs.List.{AllByRecursion}
-use Rattle.uart_events.specs.declared.call.Call.{Call}
-use Rattle.uart_events.specs.declared.call.Call.TheVariants as driver
-use Rattle.uart_run.specs.Session.{reported_by, received_by}
+use Rattle.uart_call.specs.declared.call.Call.{Call}
+use Rattle.uart_call.specs.declared.call.Call.TheVariants as driver
+use Rattle.uart_run.specs.Reported.{reported_by, received_by}
 use Rattle.uart_ring.specs.Ring.{ring_fields, waiting}
 use Rattle.uart_ring.specs.Lossless.{with_accepted, overtaken_by, without_dropped}
 use Rattle.uart_ring_runs.specs.declared.call.RingCall.{RingCall}

@@ -4,7 +4,7 @@
 ghost use Rattle.std.specs.Prelude.{◌≡◌, ◌≤◌, ◌+◌, ℕ, suc, Bool, true, false, List, [], ◌∷◌};
 ghost use Rattle.std.specs.Prelude.{None, Some};
 ghost use Rattle.std.specs.Prelude.{Result, Ok, Err, All, length, map, take};
-ghost use Rattle.uart_events.specs.declared.call.Call.{Call};
+ghost use Rattle.uart_call.specs.declared.call.Call.{Call};
 ghost use Rattle.uart_events.specs.declared.event.Chip.TheVariants.{Uart16550A};
 ghost use Rattle.uart_16550.specs.Driver.{Did, backend_of};
 ghost use Rattle.uart_16550.specs.Init.{Inits};

@@ -1,5 +1,5 @@
 -- What is done by rings at a bus, one call after another.
-use Rattle.std.proofs.Common.{◌≡◌, ◌++◌, ℕ, false, List, [], ◌∷◌, Option, Some, None, length, refl, is_some, arith}
+use Rattle.std.proofs.Common.{◌≡◌, ◌++◌, ◌∙◌, ℕ, Bool, false, List, [], ◌∷◌, Option, Some, None, length, refl, ap, subst, is_some, arith}
 use Rattle.std.specs.Prelude.{option_to_list}
 use Rattle.uart_spec.specs.declared.access.Access.{Access}
 use Rattle.uart_16550.specs.Driver.{Made, Next, Saving, fields}
@@ -8,7 +8,11 @@ use Rattle.uart_16550.proofs.Doings.{did_made}
 use Rattle.uart_16550.proofs.Paths.{path_then}
 use Rattle.uart_ring.specs.Ring as rings
 use Rattle.uart_ring.specs.Ring.{ring_backend_of, ring_fields}
-use Rattle.uart_rs485.specs.Rings.{OfDriver, OnRings, RingBusDid, RingBusDoing, RingBusFields, ring_bus_fields, with_rings}
+use Rattle.uart_ring.specs.Status.{TakesLine}
+use Rattle.uart_ring.specs.Transmit.{ClearsTransmit}
+use Rattle.uart_rs485.specs.Rings.{OfDriver, OnRings, RingBusDid, RingBusDoing, RingBusFields, RingGivesUp, RingTurns, ring_bus_fields}
+use Rattle.uart_rs485.specs.Rings.{rings_receiving, same, with_rings}
+use Rattle.uart_rs485.specs.declared.direction.Direction.{Direction}
 use Rattle.uart_rs485.specs.declared.rings.HalfDuplexRing.{HalfDuplexRing}
 
 -- the driver under the rings made this and saved it, and of the other fields only this changed
@@ -40,3 +44,18 @@ pub nothing_waits : (urgent : Option ℕ) (items : List ℕ) → length items �
 nothing_waits None [] none not_urgent = refl
 nothing_waits (Some byte) items none not_urgent = absurd cc
 nothing_waits None (byte ∷ items) none not_urgent = absurd (omega (arith, none))
+
+-- rings that are returned by `give_up`
+pub rings_given_up : {B : Type 0} {step : B → Access → B → Type 0} (status dropped : ℕ) (a b : HalfDuplexRing B) →
+    RingBusDid step (Next (Next (OnRings (TakesLine status) same) (RingTurns false)) (OnRings (ClearsTransmit dropped) same)) a b →
+    RingBusDid step (RingGivesUp status) a (rings_receiving b.ring a.direction)
+rings_given_up status dropped a b p =
+    let first = p.does.first in
+    let way : b.direction ≡ a.direction = ap (λ (f : RingBusFields). f.direction) p.does.second.1
+    ∙ (ap (λ (f : RingBusFields). f.direction) first.second.1 ∙ ap (λ (f : RingBusFields). f.direction) first.first.1) in
+    let off : b.is_sending ≡ false = ap (λ (f : RingBusFields). f.sends) p.does.second.1
+    ∙ ap (λ (f : RingBusFields). f.sends) first.second.1 in
+    let is : ring_bus_fields b ≡ ring_bus_fields (rings_receiving b.ring a.direction) =
+    λ i. record { rings = ring_fields b.ring; direction = way i; sends = off i } in
+    let P : RingBusFields → Type 0 = λ f. RingGivesUp status (ring_bus_fields a) p.list f in
+    record { list = p.list; path = p.path; does = subst P is (dropped, p.does) }

@@ -1,7 +1,7 @@
 -- That calls of rings at a bus keep the direction.
 use Rattle.std.proofs.Common.{◌≡◌, ◌==◌, ◌++◌, ◌∙◌, ℕ, zero, suc, Bool, true, false, List, [], ◌∷◌, Result, Ok, Err}
 use Rattle.std.proofs.Common.{refl, sym, ap, subst, append-nil, if◌then◌else◌, length, take, min, inl, inr}
-use Rattle.std.specs.Prelude.{⊤}
+use Rattle.std.specs.Prelude.{⊤, nat_lt, Option, Some, None, MatchBool, MatchOption, option_to_list}
 use Rattle.uart_spec.specs.declared.access.Access.{Access}
 use Rattle.uart_spec.specs.declared.access.Access.TheVariants.{Read, Write}
 use Rattle.uart_spec.specs.FifoSize.{characters}
@@ -13,28 +13,35 @@ use Rattle.uart_spec.specs.declared.registers.interrupt_type.InterruptType.TheVa
 use Rattle.uart_spec.specs.declared.registers.interrupt_type.InterruptType.TheVariants.{DmaTransmissionEndOfTransfer}
 use Rattle.uart_spec.specs.declared.registers.offsets.TheConstants as offsets
 use Rattle.uart_16550.specs.Driver.{Fields, settings_of}
-use Rattle.uart_ring.specs.Handle.{Handles, Retriggers, RetriggersUnlessIdle}
+use Rattle.uart_ring.specs.Handle.{Handles, Retriggers, RetriggersUnlessIdle, SendsAndRetriggers}
 use Rattle.uart_ring.specs.Lossless.{LosesNothing, data_written}
-use Rattle.uart_ring.specs.Receive.{EndsPause, FillsReceiveRing, TakesBytes}
-use Rattle.uart_ring.specs.Ring.{IfAny, RingDoing, RingFields, RingTimes, free, is_full, sendable, waiting, with_queued, without_sent}
+use Rattle.uart_ring.specs.Receive.{ClearsReceive, EndsPause, FillsReceiveRing, TakesBytes}
+use Rattle.uart_ring.specs.Ring.{OnDriver, RingSets, unchanged, with_rounds}
+use Rattle.uart_ring.specs.Ring.{IfAny, RingDoing, RingFields, free, is_full, sendable, waiting, with_queued, without_sent}
 use Rattle.uart_ring.specs.Ring.{without_taken}
-use Rattle.uart_ring.specs.Service.{ServesInterrupt, ServesOne, ServesUpTo, Stops}
-use Rattle.uart_ring.specs.Transmit.{ArmsIfLeft, Pumps, Queues}
+use Rattle.uart_ring.specs.Service.{SendsOnIf, ServesData, ServesInterrupt, ServesOne, ServesTimes, ServesUpTo, Stops}
+use Rattle.uart_ring.specs.Storm.{CountsRound, CountsUnfinished, HandlesRound, LooksOnceMore, Restarts, ShowsStuck, StaysStuck}
+use Rattle.uart_ring.specs.Storm.{TriesToHandle, counts_as, every_bit, has_moved, not_paused, round_limit}
+use Rattle.uart_ring.specs.Transmit.{ArmsIfLeft, ClearsTransmit, Pumps, Queues, ResumesTransmit}
 use Rattle.uart_ring.specs.declared.ring.service.HandleEnd.{HandleEnd}
 use Rattle.uart_ring.specs.declared.ring.service.HandleEnd.TheVariants.{Idle, Unknown, Limit}
 use Rattle.uart_ring.specs.declared.ring.service.Handled.{Handled}
-use Rattle.uart_ring.proofs.Losses.{handles_lose_nothing, takes_lose_nothing, takes_line_loses_nothing}
+use Rattle.uart_ring.specs.declared.ring.storm.StuckError.{StuckError}
+use Rattle.uart_ring.proofs.Losses.{clears_receive_loses_nothing, handles_lose_nothing, restarts_lose_nothing, takes_lose_nothing}
+use Rattle.uart_ring.proofs.Losses.{takes_line_loses_nothing, tries_lose_nothing}
 use Rattle.uart_ring.proofs.Pausing.{ChangesIer, Pausing, joined_with, rid_of}
 use Rattle.uart_rs485.specs.Directions.{empty_after_one, sends_after}
 use Rattle.uart_rs485.specs.Rings.{DoesRingCall, DoesRingCalls, RingBusCall, RingBusFields, RingCallsKeepDirection, RingKeepsFromNew}
-use Rattle.uart_rs485.specs.Rings.{RingQueues, RingStays, RingTriesToFinish, RingTurns, WaitsToSend, with_rings}
+use Rattle.uart_rs485.specs.Rings.{OnRings, RingGivingUpFrees, RingLooks, RingQueues, RingStays, RingTriesToFinish, RingTurns, WaitsToSend}
+use Rattle.uart_rs485.specs.Rings.{same, with_rings}
 use Rattle.uart_rs485.specs.declared.direction.Direction.{Direction}
 use Rattle.uart_rs485.specs.declared.errors.BusyError.{BusyError}
 use Rattle.uart_rs485.specs.declared.errors.NotSendingError.{NotSendingError}
 use Rattle.uart_rs485.proofs.Allowing.{AllowsAll, allows_append, keeps_all, sends_after-append}
 use Rattle.uart_rs485.proofs.Keeping.{Finish, finished, never, turn_allows, written}
 use Rattle.uart_rs485.proofs.Quiet.{AllQuiet, receives_quiet, sends_quiet}
-use Rattle.uart_rs485.proofs.Turning.{switches_turn}
+use Rattle.uart_rs485.proofs.Turning.{switches_turn, unlooped_off}
+use Rattle.uart_rs485.specs.Directions.{turned}
 
 -- ---- accesses that write no MCR
 
@@ -119,45 +126,59 @@ fills_calm f l after (bytes, t) = rw t.whole (calm-append t.front t.back
     (receives_quiet true (min (characters f.driver.size) (free f.receive)) bytes (settings_of f.driver) t.front t.first.0.0))
     (pausing_calm (rid_of IER.DATA_READY.0) true (is_full t.mid.receive) t.mid t.back after t.second))
 
-serves_calm : (interrupt : InterruptType) → Calm (ServesInterrupt interrupt)
-serves_calm ReceiverLineStatus f l after (status, ((read, is, shown, changed), same)) = rw is (tt, tt)
-serves_calm ReceivedDataReady f l after t = fills_calm f l after t
-serves_calm ReceptionTimeout f l after t = fills_calm f l after t
-serves_calm TransmitterHoldingRegisterEmpty f l after t = pumps_calm f l after t
-serves_calm ModemStatus f l after (status, ((read, is, shown, changed), same)) = rw is (tt, tt)
-serves_calm DmaReceptionEndOfTransfer f l after t = rw t.0 tt
-serves_calm DmaTransmissionEndOfTransfer f l after t = rw t.0 tt
+sends_on_calm : (room : Bool) → Calm (SendsOnIf room)
+sends_on_calm true f l after (zero, t) = quiet_calm l (sends_quiet true refl (sendable f) 0 (settings_of f.driver) l t.0.0)
+sends_on_calm true f l after (suc n, t) = pumps_calm f l after (suc n, t)
+sends_on_calm false f l after t = rw t.0 tt
 
-serves_one_calm : Calm ServesOne
-serves_one_calm f l after (interrupt, t) =
+serves_data_calm : (room : Bool) → Calm (ServesData room)
+serves_data_calm room f l after t =
+    rw t.whole (calm-append t.front t.back (fills_calm f t.front t.mid t.first) (sends_on_calm room t.mid t.back after t.second))
+
+serves_calm : (sends room left : Bool) (interrupt : InterruptType) → Calm (ServesInterrupt sends room left interrupt)
+serves_calm sends room left ReceiverLineStatus f l after (status, told, ((read, is, shown, changed), same)) = rw is (tt, tt)
+serves_calm sends room left ReceivedDataReady f l after (is, t) = serves_data_calm room f l after t
+serves_calm sends room left ReceptionTimeout f l after (is, t) = serves_data_calm room f l after t
+serves_calm sends room left TransmitterHoldingRegisterEmpty f l after (is, t) = pumps_calm f l after t
+serves_calm sends room left ModemStatus f l after (kept, (status, ((read, is, shown, changed), same))) = rw is (tt, tt)
+serves_calm sends room left DmaReceptionEndOfTransfer f l after (is, t) = rw t.0 tt
+serves_calm sends room left DmaTransmissionEndOfTransfer f l after (is, t) = rw t.0 tt
+
+serves_one_calm : (sends room left : Bool) → Calm (ServesOne sends room left)
+serves_one_calm sends room left f l after (interrupt, t) =
     let looks : AllCalm t.front = rw t.first.0.2.0.is (tt, tt) in
-    rw t.whole (calm-append t.front t.back looks (serves_calm interrupt t.mid t.back after t.second))
+    rw t.whole (calm-append t.front t.back looks (serves_calm sends room left interrupt t.mid t.back after t.second))
 
-times_calm : (n : ℕ) → Calm (RingTimes n ServesOne)
-times_calm zero f l after t = rw t.0 tt
-times_calm (suc n) f l after t =
-    rw t.whole (calm-append t.front t.back (serves_one_calm f t.front t.mid t.first) (times_calm n t.mid t.back after t.second))
+times_calm : (sends : Bool) (n : ℕ) (room left : Bool) → Calm (ServesTimes sends n room left)
+times_calm sends zero room left f l after (is, t) = rw t.0 tt
+times_calm sends (suc n) room left f l after (next, t) =
+    rw t.whole (calm-append t.front t.back (serves_one_calm sends room next f t.front t.mid t.first)
+    (times_calm sends n next left t.mid t.back after t.second))
 
 stops_calm : (end : HandleEnd) → Calm (Stops end)
 stops_calm Idle f l after ((isr, shown, idle, t), same) = rw t.0.is (tt, tt)
 stops_calm Unknown f l after ((isr, shown, idle, t), same) = rw t.0.is (tt, tt)
 stops_calm Limit f l after t = rw t.0 tt
 
-serves_up_to_calm : (limit : ℕ) (handled : Handled) → Calm (ServesUpTo limit handled)
-serves_up_to_calm limit handled f l after (within, t) = rw t.whole (calm-append t.front t.back
-    (times_calm handled.served f t.front t.mid t.first) (stops_calm handled.end t.mid t.back after t.second))
+serves_up_to_calm : (sends : Bool) (limit : ℕ) (handled : Handled) (room : Bool) → Calm (ServesUpTo sends limit handled room)
+serves_up_to_calm sends limit handled room f l after (within, t) = rw t.whole (calm-append t.front t.back
+    (times_calm sends handled.served false room f t.front t.mid t.first) (stops_calm handled.end t.mid t.back after t.second))
 
 retriggers_calm : Calm Retriggers
 retriggers_calm f l after (((ier, is), saved), same) = rw is (tt, (refl, (refl, tt)))
 
-unless_idle_calm : (end : HandleEnd) → Calm (RetriggersUnlessIdle end)
-unless_idle_calm Idle f l after t = rw t.0 tt
-unless_idle_calm Unknown f l after t = retriggers_calm f l after t
-unless_idle_calm Limit f l after t = retriggers_calm f l after t
+sends_and_retriggers_calm : (room : Bool) → Calm (SendsAndRetriggers room)
+sends_and_retriggers_calm room f l after t = rw t.whole (calm-append t.front t.back
+    (sends_on_calm room f t.front t.mid t.first) (retriggers_calm t.mid t.back after t.second))
+
+unless_idle_calm : (room : Bool) (end : HandleEnd) → Calm (RetriggersUnlessIdle room end)
+unless_idle_calm room Idle f l after t = rw t.0 tt
+unless_idle_calm room Unknown f l after t = sends_and_retriggers_calm room f l after t
+unless_idle_calm room Limit f l after t = sends_and_retriggers_calm room f l after t
 
 handles_calm : (limit : ℕ) (handled : Handled) → Calm (Handles limit handled)
-handles_calm limit handled f l after t = rw t.whole (calm-append t.front t.back
-    (serves_up_to_calm limit handled f t.front t.mid t.first) (unless_idle_calm handled.end t.mid t.back after t.second))
+handles_calm limit handled f l after (room, t) = rw t.whole (calm-append t.front t.back
+    (serves_up_to_calm true limit handled room f t.front t.mid t.first) (unless_idle_calm room handled.end t.mid t.back after t.second))
 
 any_ends_pause_calm : (count : ℕ) → Calm (IfAny count EndsPause)
 any_ends_pause_calm zero f l after t = rw t.0 tt
@@ -165,6 +186,50 @@ any_ends_pause_calm (suc n) f l after t = pausing_calm (joined_with IER.DATA_REA
 
 takes_calm : (slots : ℕ) (bytes : List ℕ) → Calm (TakesBytes slots bytes)
 takes_calm slots bytes f l after (is, t) = any_ends_pause_calm (length bytes) (without_taken (length bytes) f) l after t
+
+clears_receive_calm : (count : ℕ) → Calm (ClearsReceive count)
+clears_receive_calm count f l after (is, t) = any_ends_pause_calm count (without_taken count f) l after t
+
+-- ---- and in a storm
+
+shows_stuck_calm : (error : StuckError) → Calm (OnDriver (ShowsStuck error) unchanged)
+shows_stuck_calm error f l after ((isr, shown, t), same) = rw t.0.is (tt, tt)
+
+looks_calm : (found : Option StuckError) → Calm (LooksOnceMore found)
+looks_calm None f l after ((isr, shown, idle, t), same) = rw t.0.is (tt, tt)
+looks_calm (Some error) f l after t = rw t.whole (calm-append t.front t.back (shows_stuck_calm error f t.front t.mid t.first)
+    (changes_calm (rid_of every_bit) t.mid.driver t.back after.driver t.second.0))
+
+counts_unfinished_calm : (rounds : ℕ) (found : Option StuckError) → Calm (CountsUnfinished rounds found)
+counts_unfinished_calm rounds found f l after t = go (nat_lt (suc f.rounds) rounds) t
+  where
+    go : (more : Bool) → MatchBool more ((found ≡ None) × RingSets (with_rounds (suc f.rounds)) f l after) (LooksOnceMore found f l after) →
+        AllCalm l
+    go true t = rw t.1.0 tt
+    go false t = looks_calm found f l after t
+
+counts_calm : (rounds : ℕ) (end : HandleEnd) (found : Option StuckError) → Calm (CountsRound rounds end found)
+counts_calm rounds Idle found f l after t = rw t.1.0 tt
+counts_calm rounds Unknown found f l after t = counts_unfinished_calm rounds found f l after t
+counts_calm rounds Limit found f l after t = counts_unfinished_calm rounds found f l after t
+
+tries_calm : (limit rounds : ℕ) (result : Result Handled StuckError) → Calm (TriesToHandle limit rounds result)
+tries_calm limit rounds result f l after t = go f.stuck t
+  where
+    go : (was : Option StuckError) → MatchOption was (HandlesRound (round_limit limit) rounds result f l after)
+        (λ error. StaysStuck result error f l after) → AllCalm l
+    go None (handled, found, is, t) =
+        rw t.whole (calm-append t.front t.back (handles_calm (round_limit limit) handled f t.front t.mid t.first)
+        (counts_calm rounds (counts_as (has_moved f t.mid) handled.end) found t.mid t.back after t.second))
+    go (Some error) (is, t) = changes_calm (rid_of every_bit) f.driver l after.driver t.0
+
+resumes_calm : Calm ResumesTransmit
+resumes_calm f l after t = any_pumps_calm (length (waiting f)) f l after t
+
+restarts_calm : (bits : ℕ) → Calm (Restarts bits)
+restarts_calm bits f l after t = rw t.whole (calm-append t.front t.back
+    (changes_calm (joined_with (not_paused f.is_paused bits)) f.driver t.front t.mid.driver t.first.0)
+    (resumes_calm t.mid t.back after t.second))
 
 -- ---- each call
 
@@ -259,23 +324,50 @@ finishes_kept f l after before (none, t) =
       waits = λ off. ap waiting t.second.0.1 ∙ (ap waiting t.first.0.1 ∙ none);
     }
 
+-- a look at the transmitter
+looks_kept : (idle : Bool) (f : RingBusFields) (l : List Access) (after : RingBusFields) → WaitsToSend f → RingLooks idle f l after →
+    KeptFrom f l after
+looks_kept idle f l after waits t =
+    let looked = t.0.0.0 in
+    let sends : after.sends ≡ f.sends = ap (λ (x : RingBusFields). x.sends) t.1 in
+    record {
+      allows = rw looked.is (tt, tt);
+      sends = sends ∙ rw looked.is refl;
+      direction = ap (λ (x : RingBusFields). x.direction) t.1;
+      waits = λ off. ap waiting t.0.1 ∙ waits (sym sends ∙ off);
+    }
+
 tries_kept : (result : Result (Unit {0}) BusyError) (f : RingBusFields) (l : List Access) (after : RingBusFields) → WaitsToSend f →
     RingTriesToFinish result f l after → KeptFrom f l after
 tries_kept (Ok x) f l after waits t = finishes_kept f l after f.sends t
 tries_kept (Err e) f l after waits (inl (some, t)) = stays_kept f l after waits t
-tries_kept (Err e) f l after waits (inr (none, t)) =
-    let looked = t.0.0.0 in
-    record {
-      allows = rw looked.is (tt, tt);
-      sends = ap (λ (x : RingBusFields). x.sends) t.1 ∙ rw looked.is refl;
-      direction = ap (λ (x : RingBusFields). x.direction) t.1;
-      waits = λ off. ap waiting t.0.1 ∙ none;
-    }
+tries_kept (Err e) f l after waits (inr (none, t)) = looks_kept false f l after (λ off. none) t
+
+-- the transmit ring is emptied
+cleared_none : (urgent : Option ℕ) (items : List ℕ) → option_to_list urgent ++ items ≡ [] → option_to_list urgent ++ [] ≡ []
+cleared_none None items none = refl
+cleared_none (Some byte) items none = absurd cc
+
+clears_kept : (count : ℕ) (f : RingBusFields) (l : List Access) (after : RingBusFields) → WaitsToSend f →
+    OnRings (ClearsTransmit count) same f l after → KeptFrom f l after
+clears_kept count f l after waits ((counted, (is, changed)), same) =
+    let sends : after.sends ≡ f.sends = ap (λ (x : RingBusFields). x.sends) same in
+    rw is (record {
+      allows = tt;
+      sends = sends;
+      direction = ap (λ (x : RingBusFields). x.direction) same;
+      waits = λ off. ap waiting changed ∙ cleared_none f.rings.urgent f.rings.transmit.items (waits (sym sends ∙ off));
+    })
 
 call_kept : (call : RingBusCall) (f : RingBusFields) (l : List Access) (after : RingBusFields) → WaitsToSend f →
     DoesRingCall call f l after → KeptFrom f l after
 call_kept RingBusCall.start_sending f l after waits t = turns_kept f l after t
 call_kept RingBusCall.try_finish f l after waits (result, t) = tries_kept result f l after waits t
+call_kept RingBusCall.is_idle f l after waits (idle, t) = looks_kept idle f l after waits t
+call_kept RingBusCall.clear_transmit f l after waits (count, t) = clears_kept count f l after waits t
+call_kept RingBusCall.clear_receive f l after waits (count, t) =
+    calm_kept f l after f.rings.receive.items 0 0 waits (clears_receive_calm count f.rings l after.rings t.0)
+    (clears_receive_loses_nothing f.rings count l after.rings t.0) t.1
 call_kept RingBusCall.take_line f l after waits (line, t) =
     let calm : AllCalm l = rw t.0.2.0.1 (tt, tt) in
     calm_kept f l after [] line 0 waits calm (takes_line_loses_nothing line f.rings l after.rings t.0) t.1
@@ -286,6 +378,12 @@ call_kept (RingBusCall.take slots) f l after waits (bytes, t) =
 call_kept (RingBusCall.handle limit) f l after waits (handled, t) =
     calm_kept f l after [] 0 0 waits (handles_calm limit handled f.rings l after.rings t.0)
     (handles_lose_nothing limit handled f.rings l after.rings t.0) t.1
+call_kept (RingBusCall.try_handle limit rounds) f l after waits (result, t) =
+    calm_kept f l after [] 0 0 waits (tries_calm limit rounds result f.rings l after.rings t.0)
+    (tries_lose_nothing limit rounds result f.rings l after.rings t.0) t.1
+call_kept (RingBusCall.restart interrupts) f l after waits t =
+    calm_kept f l after [] 0 0 waits (restarts_calm interrupts f.rings l after.rings t.0)
+    (restarts_lose_nothing interrupts f.rings l after.rings t.0) t.1
 
 -- one list and then another
 then_kept : (d : Direction) (before : Bool) (l m : List Access) (mid after : RingBusFields) → Kept d before l mid → KeptFrom mid m after →
@@ -316,3 +414,25 @@ ring_keeps_from_new d sends f calls l m mid after t u =
     let first = finishes_kept _ l mid sends t in
     let kept = then_kept d sends l m mid after first (calls_kept calls mid m after first.waits u) in
     (keeps_all d sends (l ++ m) kept.allows, kept.sends)
+
+-- ---- the bus is given up
+
+pub rings_free : RingGivingUpFrees
+rings_free status f l after (dropped, t) =
+    let first = t.first in
+    let looked = first.first.0.2.0 in
+    let made = first.second.0.0.0 in
+    let way : first.mid.direction ≡ f.direction = ap (λ (x : RingBusFields). x.direction) first.first.1 in
+    record {
+      frees = record {
+        lsr = looked.0;
+        mcr = made.0;
+        written = written f.direction false made.0;
+        is = t.whole ∙ ((λ i. first.whole i ++ t.second.0.1.0 i) ∙ (append-nil (first.front ++ first.back)
+            ∙ ((λ i. looked.1 i ++ made.1 i) ∙ ap (λ (d : Direction). Read offsets.LSR looked.0 ∷ Read offsets.MCR made.0 ∷
+            Write offsets.MCR (written d false made.0) ∷ []) way)));
+        receives = switches_turn f.direction false made.0;
+        loopback = unlooped_off (turned f.direction false made.0);
+      };
+      none = ap (λ (x : RingFields). x.transmit.items) t.second.0.1.1;
+    }

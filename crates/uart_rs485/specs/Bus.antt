@@ -15,6 +15,7 @@ use Rattle.uart_16550.specs.declared.driver.Uart16550.{Uart16550}
 use Rattle.uart_rs485.specs.Directions.{turned}
 use Rattle.uart_rs485.specs.declared.bus.HalfDuplex.{HalfDuplex}
 use Rattle.uart_rs485.specs.declared.direction.Direction.{Direction}
+use Rattle.uart_ring.specs.declared.refused.Refused.{Refused}
 use Rattle.uart_rs485.specs.declared.errors.BusyError.{BusyError}
 use Rattle.uart_rs485.specs.declared.errors.EchoError.{EchoError}
 use Rattle.uart_rs485.specs.declared.errors.EchoError.TheVariants.{Differs, Silent}
@@ -98,11 +99,12 @@ unknown driver direction = record { uart = driver; direction = direction; is_sen
 -- `new`: as `try_finish` of a driver of whose direction nothing is known, so that it is taken to be to send. If the
 -- transmitter is not empty, the driver is returned
 abbrev pub Begins : {B : Type 0} → (B → Access → B → Type 0) → Uart16550 B → Direction →
-    Result (HalfDuplex B) (Uart16550 B × BusyError) → Type 0
+    Result (HalfDuplex B) (Refused (Uart16550 B) BusyError) → Type 0
 Begins step driver direction (Ok bus) =
     BusDid step (TriesToFinish {T = Unit {0}} (Ok tt)) (unknown driver direction) bus
-Begins step driver direction (Err (returned, e)) =
-    BusDid step (TriesToFinish {T = Unit {0}} (Err e)) (unknown driver direction) (unknown returned direction)
+Begins step driver direction (Err refused) =
+    BusDid step (TriesToFinish {T = Unit {0}} (Err refused.cause)) (unknown driver direction)
+    (unknown refused.given direction)
 
 -- a driver at a bus that receives
 abbrev pub receiving : {B : Type 0} → Uart16550 B → Direction → HalfDuplex B

@@ -7,16 +7,19 @@ use Rattle.uart_16550.specs.Driver.{Doing, Next, Saving}
 use Rattle.uart_16550.specs.Frame.{ShowsIdle, unlooped}
 use Rattle.uart_16550.specs.Grammar.{Modifies}
 use Rattle.uart_ring.specs.Handle.{Handles}
-use Rattle.uart_ring.specs.Receive.{TakesBytes}
+use Rattle.uart_ring.specs.Receive.{ClearsReceive, TakesBytes}
 use Rattle.uart_ring.specs.Ring as rings
 use Rattle.uart_ring.specs.Ring.{RingDoing, RingFields, ring_backend_of, ring_fields, waiting}
 use Rattle.uart_ring.specs.Status.{TakesLine}
-use Rattle.uart_ring.specs.Transmit.{Queues}
+use Rattle.uart_ring.specs.Storm.{Restarts, TriesToHandle}
+use Rattle.uart_ring.specs.Transmit.{ClearsTransmit, Queues}
 use Rattle.uart_ring.specs.declared.ring.Uart16550Ring.{Uart16550Ring}
 use Rattle.uart_ring.specs.declared.ring.service.Handled.{Handled}
+use Rattle.uart_ring.specs.declared.ring.storm.StuckError.{StuckError}
 use Rattle.uart_rs485.specs.Directions.{sends_after, turned}
-use Rattle.uart_rs485.specs.Laws.{KeepsDirection}
+use Rattle.uart_rs485.specs.Laws.{FreesBus, KeepsDirection}
 use Rattle.uart_rs485.specs.declared.direction.Direction.{Direction}
+use Rattle.uart_ring.specs.declared.refused.Refused.{Refused}
 use Rattle.uart_rs485.specs.declared.errors.BusyError.{BusyError}
 use Rattle.uart_rs485.specs.declared.errors.NotSendingError.{NotSendingError}
 use Rattle.uart_rs485.specs.declared.rings.HalfDuplexRing.{HalfDuplexRing}
@@ -95,35 +98,54 @@ rings_unknown ring direction = record { ring = ring; direction = direction; is_s
 -- `new`: as `try_finish` of rings of whose direction nothing is known, so that it is taken to be to send. If that
 -- fails, the rings are returned
 abbrev pub RingBegins : {B : Type 0} → (B → Access → B → Type 0) → Uart16550Ring B → Direction →
-    Result (HalfDuplexRing B) (Uart16550Ring B × BusyError) → Type 0
+    Result (HalfDuplexRing B) (Refused (Uart16550Ring B) BusyError) → Type 0
 RingBegins step ring direction (Ok bus) =
     RingBusDid step (RingTriesToFinish {T = Unit {0}} (Ok tt)) (rings_unknown ring direction) bus
-RingBegins step ring direction (Err (returned, e)) =
-    RingBusDid step (RingTriesToFinish {T = Unit {0}} (Err e)) (rings_unknown ring direction)
-    (rings_unknown returned direction)
+RingBegins step ring direction (Err refused) =
+    RingBusDid step (RingTriesToFinish {T = Unit {0}} (Err refused.cause)) (rings_unknown ring direction)
+    (rings_unknown refused.given direction)
 
 -- `queue`: while the direction is to send, a `queue` of the rings; else nothing, and the error
 abbrev pub RingQueues : List ℕ → Result ℕ NotSendingError → RingBusDoing
 RingQueues bytes (Ok count) f l after = (f.sends ≡ true) × OnRings (Queues bytes count) same f l after
 RingQueues bytes (Err e) f l after = (f.sends ≡ false) × RingStays f l after
 
+-- rings at a bus that receives
+abbrev pub rings_receiving : {B : Type 0} → Uart16550Ring B → Direction → HalfDuplexRing B
+rings_receiving ring direction = record { ring = ring; direction = direction; is_sending = false }
+
+-- `give_up`: a `take_line` of the rings, the transceiver is switched to receive, whatever LSR shows, and the bytes of
+-- the transmit ring are dropped
+abbrev pub RingGivesUp : (status : ℕ) → RingBusDoing
+RingGivesUp status f l after = (dropped : ℕ)
+    × Next (Next (OnRings (TakesLine status) same) (RingTurns false)) (OnRings (ClearsTransmit dropped) same) f l after
+
 -- ---- what all calls keep
 
--- the calls of rings at a bus that make accesses
+-- the calls of rings at a bus that make accesses, but for `give_up`, after which there is no bus. A `take_with_errors`
+-- is a `take`
 pub data RingBusCall : Type 0 where
-  start_sending try_finish take_line : RingBusCall
+  start_sending try_finish is_idle take_line clear_transmit clear_receive : RingBusCall
   queue : (bytes : List ℕ) → RingBusCall
   take : (slots : ℕ) → RingBusCall
   handle : (limit : ℕ) → RingBusCall
+  try_handle : (limit rounds : ℕ) → RingBusCall
+  restart : (interrupts : ℕ) → RingBusCall
 
 -- what a call did, whatever it returned
 abbrev pub DoesRingCall : RingBusCall → RingBusDoing
 DoesRingCall start_sending f l after = RingTurns true f l after
 DoesRingCall try_finish f l after = (result : Result (Unit {0}) BusyError) × RingTriesToFinish result f l after
+DoesRingCall is_idle f l after = (idle : Bool) × RingLooks idle f l after
+DoesRingCall clear_transmit f l after = (count : ℕ) × OnRings (ClearsTransmit count) same f l after
+DoesRingCall clear_receive f l after = (count : ℕ) × OnRings (ClearsReceive count) same f l after
 DoesRingCall take_line f l after = (line : ℕ) × OnRings (TakesLine line) same f l after
 DoesRingCall (queue bytes) f l after = (result : Result ℕ NotSendingError) × RingQueues bytes result f l after
 DoesRingCall (take slots) f l after = (bytes : List ℕ) × OnRings (TakesBytes slots bytes) same f l after
 DoesRingCall (handle limit) f l after = (handled : Handled) × OnRings (Handles limit handled) same f l after
+DoesRingCall (try_handle limit rounds) f l after =
+    (result : Result Handled StuckError) × OnRings (TriesToHandle limit rounds result) same f l after
+DoesRingCall (restart interrupts) f l after = OnRings (Restarts interrupts) same f l after
 
 -- what calls did, one after another
 abbrev pub DoesRingCalls : List RingBusCall → RingBusDoing
@@ -150,3 +172,15 @@ RingKeepsFromNew = (d : Direction) (sends : Bool) (f : RingFields) (calls : List
     RingTriesToFinish {T = Unit {0}} (Ok tt) (record { rings = f; direction = d; sends = true }) l mid →
     DoesRingCalls calls mid m after →
     KeepsDirection d sends (l ++ m) × (after.sends ≡ sends_after d sends (l ++ m))
+
+-- these accesses are a look at LSR, one at MCR, and a write of MCR by which the transceiver receives, and no byte of
+-- the transmit ring is left
+pub record RingFreesBus (d : Direction) (l : List Access) (after : RingBusFields) : Type 0 where
+  pub frees : FreesBus d l
+  pub none : after.rings.transmit.items ≡ []
+
+-- a `give_up` of rings frees the bus, whatever the chip shows, and nothing of what was queued is sent later
+abbrev pub RingGivingUpFrees : Type 0
+RingGivingUpFrees = (status : ℕ) (f : RingBusFields) (l : List Access) (after : RingBusFields) →
+    -- LSR is read, the transceiver is switched to receive, and the transmit ring is emptied
+    RingGivesUp status f l after → RingFreesBus f.direction l after

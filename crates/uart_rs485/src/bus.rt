@@ -11,6 +11,7 @@ use crate::errors::BusyError;
 use uart_16550::Uart16550;
 use uart_16550::backend::Backend;
 use uart_16550::embedded_io::Write;
+use uart_ring::Refused;
 use uart_spec::StalledError;
 use uart_spec::registers::LSR;
 
@@ -79,12 +80,12 @@ impl<B: Backend> HalfDuplex<B> {
     /// # Examples
     ///
     /// ```
-    /// let mut bus = match HalfDuplex::new(uart, direction) {
-    ///     Ok(bus) => bus,
-    ///     Err((_uart, busy)) => return Err(busy.into()),
-    /// };
+    /// let mut bus = HalfDuplex::new(uart, direction)?;
     /// ```
-    pub fn new(uart: Uart16550<B>, direction: Direction) -> Result<Self, (Uart16550<B>, BusyError)>
+    pub fn new(
+        uart: Uart16550<B>,
+        direction: Direction,
+    ) -> Result<Self, Refused<Uart16550<B>, BusyError>>
         // proved: A bus is begun as by a `try_finish`; if the transmitter is not empty, the driver
         //   is returned
         // on: `HalfDuplex::new`
@@ -99,7 +100,10 @@ impl<B: Backend> HalfDuplex<B> {
         };
         match bus.try_finish() {
             Ok(()) => Ok(bus),
-            Err(busy) => Err((bus.uart, busy)),
+            Err(cause) => {
+                let given = bus.uart;
+                Err(Refused { given, cause })
+            }
         }
     }
 

@@ -39,6 +39,6 @@ pub enum SendError {
     #[error("the direction is not to send")]
     NotSending,
     /// A wait for room ended at the spin limit.
-    #[error("{0}")]
+    #[error("not all bytes were sent: {0}")]
     Stalled(StalledError),
 }

@@ -3,7 +3,7 @@
 //! The contract of each function is a law that callers can cite. The functions do nothing.
 ghost use Rattle.uart_rs485.specs.Laws.{CallsKeepDirection, GivingUpFrees, KeepsFromNew};
 ghost use Rattle.uart_rs485.specs.Laws.{OutputsReceive, SwitchesTurn};
-ghost use Rattle.uart_rs485.specs.Rings.{RingCallsKeepDirection, RingKeepsFromNew};
+ghost use Rattle.uart_rs485.specs.Rings.{RingCallsKeepDirection, RingGivingUpFrees, RingKeepsFromNew};
 
 /// Whatever calls are made, in whatever order: each byte is written while the direction is to send.
 /// And it is switched to receive only behind a look at LSR that showed an empty transmitter, with
@@ -48,15 +48,19 @@ pub fn rings_keep_direction()
 {}
 
 /// After a `give_up` the transceiver receives, whatever the chip shows, and the call wrote no byte.
-/// It is the one call that may cut off what was sent, and there is no bus after it.
+/// It is the one call that may cut off what was sent, and there is no bus after it. That of rings
+/// leaves no byte in the transmit ring, so none goes out later.
 pub fn giving_up_frees_the_bus()
     // promise: a bus is given back when its program wants it, also by a transmitter that never gets
     //   empty
-    // with: giving_up_frees_the_bus, give_up
-    // shown by: a_stuck_transmitter_is_given_up
-    // refused: give_up_goes_on_sending, give_up_switches_before_the_look
+    // with: giving_up_frees_the_bus.driver, giving_up_frees_the_bus.rings, give_up
+    // shown by: a_stuck_transmitter_is_given_up, rings_at_a_stuck_transmitter_are_given_up
+    // refused: give_up_goes_on_sending, give_up_switches_before_the_look,
+    //   rings_are_given_up_before_the_look
     // a `give_up` switches the transceiver to receive, and writes no byte
-    ensures { GivingUpFrees }
+    ensures driver { GivingUpFrees }
+    // so it is with rings, and no byte that was queued is left to be sent
+    ensures rings { RingGivingUpFrees }
 {}
 
 /// What is written to MCR to send makes the transceiver send, and what is written to receive makes

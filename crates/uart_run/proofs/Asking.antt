@@ -17,7 +17,7 @@ use Rattle.uart_spec.specs.declared.registers.line_status.TheConstants.LSR
 use Rattle.uart_spec.specs.declared.registers.offsets.TheConstants as offsets
 use Rattle.uart_16550.specs.Patience.{Awaited, ByteAfter, FlushesWhile, InVain, ReceivesWhile, RoundAfter, SendsWhile, ShowsEmpty}
 use Rattle.uart_16550.specs.Patience.{items_of, keeps_waiting, misses_of}
-use Rattle.uart_events.specs.declared.call.Call.TheVariants as call
+use Rattle.uart_call.specs.declared.call.Call.TheVariants as call
 use Rattle.uart_run.proofs.{built.Calls.call_does, built.Words.leaves}
 
 -- ---- the driver after some accesses

@@ -13,7 +13,7 @@ use Rattle.uart_spec.specs.declared.registers.line_control.TheConstants.LCR
 use Rattle.uart_spec.specs.declared.registers.modem_control.MCR.{MCR}
 use Rattle.uart_spec.specs.declared.registers.offsets.TheConstants as offsets
 use Rattle.uart_16550.proofs.determined.Init.{divisor_one, no_divisor}
-use Rattle.uart_events.specs.declared.call.Call.TheVariants as call
+use Rattle.uart_call.specs.declared.call.Call.TheVariants as call
 use Rattle.uart_run.proofs.{FrameLaws.answer_low, FrameLaws.answer_high, Pieces.then_parts, initialising.FifoShown.fifo_shown}
 use Rattle.uart_run.proofs.{initialising.Inits.frame-dlab}
 use Rattle.uart_run.proofs.Latches.{Kept, kept_in, keep, kept_after, kept_access, kept_step, kept_path, kept_list}

@@ -1,8 +1,9 @@
 -- Runs: each call of one follows what is promised of it alone, and each session in it conserves.
 use Rattle.uart_run.proofs.Names.{List, [], ◌∷◌, sym, subst, fields, settings_of, inner_of, Call, Answer, IsSound, State, machine_of, Link}
 use Rattle.uart_run.proofs.Names.{Chain, CallStep, IsRun, ComesTo, IsTimely, Succeeds, Follows, AllFollow, Ran}
-use Rattle.uart_events.specs.declared.call.Call.TheVariants as call
+use Rattle.uart_call.specs.declared.call.Call.TheVariants as call
 use Rattle.uart_run.proofs.Sessions.{session_conserves, lasts_call, lasts_wired, sound_call, sound_chain}
+use Rattle.uart_run.proofs.refining.PortRuns.{session_refines}
 use Rattle.uart_run.proofs.{FrameLaws.frames, FrameLaws.attach_takes, FrameLaws.attach_finds, SetupLaws.frames_when_idle, SetupLaws.levels}
 use Rattle.uart_run.proofs.{SetupLaws.quiets, SetupLaws.restores, OutputLaws.sets_outputs, OutputLaws.switches_rts, OutputLaws.switches_dtr}
 use Rattle.uart_run.proofs.{CheckAnswers.checks, initialising.SetUp.arranges, initialising.Initialised.initialises}
@@ -81,4 +82,6 @@ ran s t calls answers sound r = record {
   follows = follow_chain s t r.links sound r.chain;
   sessions =
       λ front session rest a b parts before within after is. session_conserves a b session (sound_chain s a front sound before) is within;
+  port =
+      λ front session rest a b parts before within after is. session_refines a b session (sound_chain s a front sound before) is within;
 }

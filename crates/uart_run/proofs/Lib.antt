@@ -12,12 +12,14 @@ pub mod KeptLists
 pub mod CallBlocks
 pub mod CallKeeps
 pub mod CheckLists
+pub mod Steady
 pub mod CallLaws
 pub mod FrameLaws
 pub mod SessionCalls
 pub mod StatusSessions
 pub mod Served
 pub mod Sessions
+pub mod refining
 pub mod progress
 pub mod initialising
 pub mod loopback

@@ -11,7 +11,7 @@ use Rattle.uart_spec.specs.declared.errors.InitError.TheVariants.{Stalled}
 use Rattle.uart_spec.specs.declared.registers.line_control.TheConstants.LCR
 use Rattle.uart_spec.specs.declared.registers.line_status.TheConstants.LSR
 use Rattle.uart_spec.specs.declared.registers.offsets.TheConstants as offsets
-use Rattle.uart_events.specs.declared.call.Call.TheVariants as call
+use Rattle.uart_call.specs.declared.call.Call.TheVariants as call
 use Rattle.uart_chip.proofs.conservation.Blocks.{Burst}
 use Rattle.uart_run.proofs.ListsInTurn.{HoldsInTurn, HoldsOfAll, all_then, HoldsOfDoing, does_next, does_sets}
 use Rattle.uart_run.proofs.{ListsInTurn.does_saving, initialising.Inits.frame-dlab, CallBlocks.InBlocks, built.Receive.waits_for}

@@ -1,6 +1,6 @@
 -- Whatever a call answers, it leaves a ready state ready.
 use Rattle.uart_run.proofs.Names.{[], ◌∷◌, inr, refl, Call, Answer, State, machine_of, Link, CallStep, Ready, IsSound, IsWithinSession}
-use Rattle.uart_events.specs.declared.call.Call.TheVariants as call
+use Rattle.uart_call.specs.declared.call.Call.TheVariants as call
 use Rattle.uart_run.proofs.{SizeKept.fits_kept, Sessions.session_conserves, SetupLaws.frame_when_idle_ready, SetupLaws.quiesce_ready}
 use Rattle.uart_run.proofs.{SetupLaws.restores, initialising.Initialised.init_ready, initialising.SetUp.init_with_ready}
 use Rattle.uart_run.proofs.{loopback.TestedReady.tested_ready}

@@ -1,6 +1,6 @@
 -- What one call of a run does.
 use Rattle.uart_run.proofs.Names.{◌≢◌, refl, Call, Answer, Performed, MachineStep, State, CallStep}
-use Rattle.uart_events.specs.declared.call.Call.TheVariants as call
+use Rattle.uart_call.specs.declared.call.Call.TheVariants as call
 
 -- the driver makes each call but `Next`
 pub step_performed : (s t : State) (c : Call) (answer : Answer) → c ≢ call.Next → Performed MachineStep s c answer t →

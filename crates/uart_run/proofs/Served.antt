@@ -12,7 +12,7 @@ use Rattle.uart_run.proofs.Names.{CallStep, Link, Chain, only_bytes, HoldsAtLeas
 use Rattle.uart_run.proofs.Names.{Serves, AllServe, has_one, Modes, PassedBlocks, path_as, path_split, look_data}
 use Rattle.uart_spec.specs.declared.registers.offsets.TheConstants as offsets
 use Rattle.uart_spec.specs.declared.registers.line_status.TheConstants.LSR
-use Rattle.uart_events.specs.declared.call.Call.TheVariants as call
+use Rattle.uart_call.specs.declared.call.Call.TheVariants as call
 use Rattle.uart_spec.specs.declared.registers.modem_status.TheConstants.MSR
 use Rattle.std.specs.Int.{bit_at}
 use Rattle.uart_chip.specs.Conserved.{out}

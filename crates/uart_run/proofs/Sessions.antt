@@ -4,7 +4,7 @@ use Rattle.uart_run.proofs.Names.{fields, inner_of, MachineState, MachineStep, a
 use Rattle.uart_run.proofs.Names.{GoesOn, IsWithinSession, AllCalls, IsSession, reported, received, Conserves, GoesOnUncut, IsWithinUncut}
 use Rattle.uart_run.proofs.Names.{IsUncutSession, IsWiredChip, IsWired, sound_path, sound_mark, Modes, dlab-in, loopback-in, received_kept}
 use Rattle.uart_spec.specs.declared.registers.line_control.TheConstants.LCR
-use Rattle.uart_events.specs.declared.call.Call.TheVariants as call
+use Rattle.uart_call.specs.declared.call.Call.TheVariants as call
 use Rattle.uart_chip.specs.Conserved.{out}
 use Rattle.uart_run.proofs.{Chains.chain_keeps, SizeKept.size_kept, SizeKept.fits_by, CallLaws.InSession, Wired.wired_path}
 use Rattle.uart_run.proofs.{Wired.wired_mark, SessionCalls.modes_of, SessionCalls.modes_cut, SessionCalls.in_session}
@@ -55,7 +55,7 @@ goes_on_uncut : (W : Type 0) (s : State) (c : Call) → (W → IsWired s) → Go
 goes_on_uncut W s (call.SetFrameWhenIdle config) f i = tt
 goes_on_uncut W s other f i = goes_on W s other f i
 
-at_each : (W : Type 0) (May : Call → Type 0) (Within : State → Call → Type 0) →
+pub at_each : (W : Type 0) (May : Call → Type 0) (Within : State → Call → Type 0) →
     ((s : State) (c : Call) → (W → IsWired s) → May c → Within s c) → (s t : State) (links : List Link) → (W → IsWired s) →
     AllCalls May links → Chain s links t → AllAt Within links
 at_each W May Within each s t [] f i h = tt

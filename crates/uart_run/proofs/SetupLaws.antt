@@ -14,7 +14,7 @@ use Rattle.uart_spec.specs.declared.registers.interrupt_status.TheConstants.ISR
 use Rattle.uart_spec.specs.declared.registers.line_control.TheConstants.LCR
 use Rattle.uart_spec.specs.declared.registers.line_status.TheConstants.LSR
 use Rattle.uart_spec.specs.declared.registers.offsets.TheConstants as offsets
-use Rattle.uart_events.specs.declared.call.Call.TheVariants as call
+use Rattle.uart_call.specs.declared.call.Call.TheVariants as call
 use Rattle.uart_run.proofs.Latches.{Kept, kept_in, keep, kept_after, kept_list, kept_path, kept_access}
 use Rattle.uart_run.proofs.{Pieces.then_parts, Pieces.next_stages, SizeKept.fits_kept, CallLaws.level_bits_keep, FrameLaws.framed_by}
 use Rattle.uart_run.proofs.{FrameLaws.framed_kept, FrameLaws.unlooped_off, initialising.FifoSteps.sets_fifo}

@@ -6,7 +6,7 @@ use Rattle.uart_run.proofs.Names.{Doing, Fields, fields, inner_of, Call, Answer,
 use Rattle.uart_run.proofs.Names.{is_dlab_set, NeverSwitches, SameSizes, same_size, same_size-lacking, same_size-mark, State, machine_of}
 use Rattle.uart_run.proofs.Names.{CallStep, transmitter_of, BurstsFit, IsSizeFixed, KeepsSize, IsUnchecked, KeepsChecks}
 use Rattle.uart_spec.specs.declared.registers.offsets.TheConstants as offsets
-use Rattle.uart_events.specs.declared.call.Call.TheVariants as call
+use Rattle.uart_call.specs.declared.call.Call.TheVariants as call
 use Rattle.uart_run.proofs.{built.Calls.kinds_of, built.Calls.call_does, CallBlocks.InBlocks}
 use Rattle.uart_run.proofs.built.Words.{Kinds, Built, Does, but_checks, allows, all_pass, told_of, allowed, leaves}
 use Rattle.uart_run.proofs.NeverSwitched.{NeverWrites, is_not, never, blocks_never, NeverEver, unwritten, unlatched, Stays, call_stays}
@@ -39,11 +39,15 @@ keeps_checks (call.InitWith config setup) keeps = absurd keeps
 keeps_checks other keeps = refl
 
 -- whether it checks CTS, after a call that is no `init`
+pub checks_left : (c : Call) → KeepsChecks c → (outcome : outcome_of (meaning c)) (f : Fields) (l : List Access) (after : Fields) →
+    doing_of (meaning c) outcome f l after → after.config.check_cts_before_sending ≡ f.config.check_cts_before_sending
+checks_left c keeps outcome f l after does =
+    allowed but_checks (kinds_of c).alters f after (keeps_checks c keeps) (leaves (call_does c outcome) f l after does).1
+
 pub checks_kept : (s t : State) (c : Call) (a : Answer) → CallStep s c a t → KeepsChecks c → IsUnchecked s → IsUnchecked t
 checks_kept s t call.Next a h keeps unchecked = ap (λ (f : Fields). f.config.check_cts_before_sending) h.driver ∙ unchecked
 checks_kept s t c a h keeps unchecked =
-    let left = leaves (call_does c h.outcome) (fields (inner_of s)) h.did.list (fields (inner_of t)) h.did.does in
-    allowed but_checks (kinds_of c).alters (fields (inner_of s)) (fields (inner_of t)) (keeps_checks c keeps) left.1 ∙ unchecked
+    checks_left c keeps h.outcome (fields (inner_of s)) h.did.list (fields (inner_of t)) h.did.does ∙ unchecked
 
 -- ---- what the driver writes at once still fits
 

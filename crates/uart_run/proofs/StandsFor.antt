@@ -7,7 +7,7 @@ use Rattle.uart_run.proofs.Names.{did_made, Call, Answer, frame_answer, frame_wh
 use Rattle.uart_run.proofs.Names.{Driver, StandsFor, found_in, ReceivesOne, SendsParts, SendsFront, WritesBytes, ReadsControl, StandsIf}
 use Rattle.uart_run.proofs.Names.{ChecksInit, ChecksInitWith, ChecksFrame, ChecksFrameWhenIdle}
 use Rattle.uart_16550.specs.Checked.{IfComputable}
-use Rattle.uart_events.specs.declared.call.Call.TheVariants as call
+use Rattle.uart_call.specs.declared.call.Call.TheVariants as call
 
 -- ---- calls that send and receive
 

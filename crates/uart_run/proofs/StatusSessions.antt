@@ -5,7 +5,7 @@ use Rattle.uart_run.proofs.Names.{MachineState, MachineStep, reported_front, IsT
 use Rattle.uart_run.proofs.Names.{reported, received, AllNoLsr, AllNoMsr, TellsLine, TellsNoOtherDrop, TellsNoOtherChange, Modes, fixed}
 use Rattle.uart_run.proofs.Names.{cut_of, IsOpen, taken_entered, look_clears, status_clears}
 use Rattle.uart_spec.specs.declared.registers.offsets.TheConstants as offsets
-use Rattle.uart_events.specs.declared.call.Call.TheVariants as call
+use Rattle.uart_call.specs.declared.call.Call.TheVariants as call
 use Rattle.uart_run.specs.Statuses.{receiver_of, Tells}
 use Rattle.uart_chip.proofs.statuses.StatusLaws.{LsrTells, lsr_tells, MsrTells, msr_tells}
 use Rattle.uart_run.proofs.{Chains.step_is, Chains.ended, CallLaws.Passes, CallLaws.InSession, FrameLaws.GoOn, FrameLaws.AllAt}

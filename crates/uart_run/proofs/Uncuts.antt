@@ -5,7 +5,7 @@ use Rattle.uart_run.proofs.Names.{arriving, cut_character, between, entered, Sta
 use Rattle.uart_run.proofs.Names.{reported, Conserves, Follows, AllFollow, Ran, IsUncut, entered_uncut, ConservesUncut, TestsUncut}
 use Rattle.uart_run.proofs.Names.{FollowsUncut, AllFollowUncut, RanUncut, IsSound}
 use Rattle.uart_spec.specs.declared.errors.LoopbackError.TheVariants.{Stalled}
-use Rattle.uart_events.specs.declared.call.Call.TheVariants as call
+use Rattle.uart_call.specs.declared.call.Call.TheVariants as call
 use Rattle.uart_chip.specs.Conserved.{out}
 use Rattle.uart_run.proofs.Latches.{cuts_path, cuts_mark}
 use Rattle.uart_run.proofs.Sessions.{Lasts, lasts_call, lasts_chain, sound_chain, uncut_session_conserves}

@@ -6,8 +6,8 @@ use Rattle.uart_run.proofs.Names.{cut_of, MachineState, never_on, same_pace, sam
 use Rattle.uart_run.proofs.Names.{Chain, transmitter_of, IsWired, HasRoom, IsUnchecked, IsUnheld, KeepsChecks, GoesOn, AllCalls, Conserves}
 use Rattle.uart_run.proofs.Names.{Follows, AllFollow, Ran, count_of, sent_of, sent_byte_of, reported_by}
 use Rattle.uart_spec.specs.declared.registers.modem_control.TheConstants.MCR
-use Rattle.uart_events.specs.declared.call.Call.TheVariants as call
-use Rattle.uart_events.specs.declared.call.Answer.TheVariants.{Stalled}
+use Rattle.uart_call.specs.declared.call.Call.TheVariants as call
+use Rattle.uart_call.specs.declared.call.Answer.TheVariants.{Stalled}
 use Rattle.uart_chip.specs.Conserved.{out}
 use Rattle.uart_run.specs.Unhindered.{IsUnhindered, to_send, Ends, EndsWithRoom, CallsEnd, CallsSucceed}
 use Rattle.uart_run.specs.Unhindered.{all_to_send, SessionsSucceed}

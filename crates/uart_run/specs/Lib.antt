@@ -5,6 +5,8 @@ pub mod Statuses
 pub mod Served
 pub mod Ready
 pub mod Progress
+pub mod Reported
+pub mod Refines
 pub mod Session
 pub mod Uncut
 pub mod Unhindered

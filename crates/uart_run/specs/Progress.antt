@@ -10,10 +10,10 @@ use Rattle.uart_16550.specs.Driver.{fields}
 use Rattle.uart_16550.specs.Init.{DivisorOf}
 use Rattle.uart_16550.specs.Expansion.{expansion}
 use Rattle.uart_16550.specs.Tty.{inner_of}
-use Rattle.uart_events.specs.declared.call.Call.{Call}
-use Rattle.uart_events.specs.declared.call.Call.TheVariants as call
-use Rattle.uart_events.specs.declared.call.Answer.{Answer}
-use Rattle.uart_events.specs.declared.call.Answer.TheVariants.{Done, Count, Latch}
+use Rattle.uart_call.specs.declared.call.Call.{Call}
+use Rattle.uart_call.specs.declared.call.Call.TheVariants as call
+use Rattle.uart_call.specs.declared.call.Answer.{Answer}
+use Rattle.uart_call.specs.declared.call.Answer.TheVariants.{Done, Count, Latch}
 use Rattle.uart_events.specs.declared.event.Event.{Event}
 use Rattle.uart_events.specs.declared.event.Event.TheVariants.{Ticks, Access as Gate, Mark}
 use Rattle.uart_chip.specs.declared.transmitter.Shifting.{Shifting}

@@ -26,11 +26,11 @@ use Rattle.uart_16550.specs.Setup.{stays_on}
 use Rattle.uart_16550.specs.Init.{DivisorOf, frame_bits}
 use Rattle.uart_16550.specs.Loopback.{test_byte}
 use Rattle.uart_16550.specs.Tty.{inner_of}
-use Rattle.uart_events.specs.declared.call.Call.{Call}
-use Rattle.uart_events.specs.declared.call.Call.TheVariants as call
-use Rattle.uart_events.specs.declared.call.Answer.{Answer}
-use Rattle.uart_events.specs.declared.call.Answer.TheVariants.{Done, Latch, InitRefused, FrameRefused, LoopbackRefused}
-use Rattle.uart_events.specs.declared.call.Answer.TheVariants.{FrameWhenIdleRefused, AttachRefused, FifosOff}
+use Rattle.uart_call.specs.declared.call.Call.{Call}
+use Rattle.uart_call.specs.declared.call.Call.TheVariants as call
+use Rattle.uart_call.specs.declared.call.Answer.{Answer}
+use Rattle.uart_call.specs.declared.call.Answer.TheVariants.{Done, Latch, InitRefused, FrameRefused, LoopbackRefused}
+use Rattle.uart_call.specs.declared.call.Answer.TheVariants.{FrameWhenIdleRefused, AttachRefused, FifosOff}
 use Rattle.uart_events.specs.declared.event.Chip.{Chip}
 use Rattle.uart_events.specs.declared.event.Chip.TheVariants.{Uart16550A, Uart16450}
 use Rattle.uart_chip.specs.Masks.{ier_bits, kept_mcr}

@@ -1,19 +1,18 @@
 -- Sessions, and what holds in each.
-use Rattle.std.specs.Prelude.{◌≡◌, ℕ, false, List, [], ◌∷◌, ◌++◌, map, take}
+use Rattle.std.specs.Prelude.{◌≡◌, ℕ, false, List, [], ◌∷◌, ◌++◌, map}
 use Rattle.uart_16550.specs.Driver.{fields}
-use Rattle.uart_16550.specs.Expansion.{expansion}
 use Rattle.uart_16550.specs.Tty.{inner_of}
-use Rattle.uart_spec.specs.declared.received.Received.{Received}
 use Rattle.uart_spec.specs.declared.setup.FifoAction.TheVariants.{Keep}
-use Rattle.uart_events.specs.declared.call.Call.{Call}
-use Rattle.uart_events.specs.declared.call.Call.TheVariants as call
-use Rattle.uart_events.specs.declared.call.Answer.{Answer}
-use Rattle.uart_events.specs.declared.call.Answer.TheVariants as answer
+use Rattle.uart_call.specs.declared.call.Call.{Call}
+use Rattle.uart_call.specs.declared.call.Call.TheVariants as call
+use Rattle.uart_call.specs.declared.call.Answer.{Answer}
 use Rattle.uart_chip.specs.Chip.{cut_of}
 use Rattle.uart_chip.specs.Conserved.{out, waiting, kept}
 use Rattle.uart_chip.specs.Switching.{SameSizes}
 use Rattle.uart_run.specs.Chains.{EachLink}
 use Rattle.uart_run.specs.Run.{State, machine_of, Link, Chain, IsRun}
+use Rattle.uart_run.specs.Reported.{reported, received}
+use Rattle.uart_run.specs.Refines.{Refines}
 use Rattle.uart_run.specs.Wired.{IsWired}
 use Rattle.uart_run.specs.Statuses.{Tells}
 use Rattle.uart_run.specs.Served.{AllServe}
@@ -59,65 +58,6 @@ AllWithinSession s = AllCalls (IsWithinSession s)
 -- a session: it begins in a ready state, and each call in it is one within a session
 abbrev pub IsSession : State → List Link → Type 0
 IsSession s links = Ready s × AllWithinSession s links
-
--- ---- what a call reported as sent, and what it received
-
--- the count of an answer, or of a stall
-abbrev pub count_of : Answer → ℕ
-count_of (answer.Count count) = count
-count_of other = 0
-
--- those of these bytes that were sent according to the answer
-abbrev pub sent_of : List ℕ → Answer → List ℕ
-sent_of bytes answer.Done = bytes
-sent_of bytes (answer.Stalled done) = take done bytes
-sent_of bytes other = []
-
-abbrev pub sent_byte_of : ℕ → Answer → List ℕ
-sent_byte_of byte answer.Done = byte ∷ []
-sent_byte_of byte other = []
-
--- the bytes that a call reported as sent
-abbrev pub reported_by : Call → Answer → List ℕ
-reported_by (call.TrySend byte) a = sent_byte_of byte a
-reported_by (call.Send bytes) a = take (count_of a) bytes.items
-reported_by (call.Write bytes) a = take (count_of a) bytes.items
-reported_by (call.SendExact bytes) a = sent_of bytes.items a
-reported_by (call.Text text) a = sent_of (expansion text.bytes) a
-reported_by other a = []
-
--- the bytes of these, without their errors
-abbrev pub only_bytes : List Received → List ℕ
-only_bytes items = map (λ received. received.byte) items
-
--- the byte, and the bytes, of an answer
-abbrev pub byte_of : Answer → List ℕ
-byte_of (answer.Register byte) = byte ∷ []
-byte_of other = []
-
-abbrev pub bytes_of : Answer → List ℕ
-bytes_of (answer.Bytes bytes) = bytes.items
-bytes_of (answer.BytesWithErrors received) = only_bytes received.items
-bytes_of (answer.ReceiveStalled bytes) = bytes.items
-bytes_of other = []
-
--- the bytes that a call received
-abbrev pub received_by : Call → Answer → List ℕ
-received_by call.TryReceive a = byte_of a
-received_by (call.Receive slots) a = bytes_of a
-received_by (call.ReceiveExact slots) a = bytes_of a
-received_by (call.ReceiveWithErrors slots) a = bytes_of a
-received_by (call.Read slots) a = bytes_of a
-received_by other a = []
-
--- the bytes that calls in turn reported as sent, and those that they received
-abbrev pub reported : List Link → List ℕ
-reported [] = []
-reported (link ∷ links) = reported_by link.call link.answer ++ reported links
-
-abbrev pub received : List Link → List ℕ
-received [] = []
-received (link ∷ links) = received_by link.call link.answer ++ received links
 
 -- ---- what a session conserves
 
@@ -207,8 +147,14 @@ AllFollow = EachLink Follows
 
 -- The theorem speaks of every part of a run that is a session, so there is no clause for each position.
 
--- these calls, with these answers, lead from s to t; each does what is promised of it alone, and each session in them
--- conserves
+-- promise: driver and chip are a port of five fields: a session is a list of its steps, in which is sent what calls
+--   report, received what they return, and told what `lsr` tells, while what arrives comes
+-- with: Ran.port, Refines.leads, Refines.sent, Refines.received, Refines.came, Refines.told
+-- shown by: what_is_said_of_sessions_holds_of_random_runs, ports_that_do_something_else_are_found
+-- refused: a_saved_loss_is_told, uart_chip/full_ports_lose_silently, uart_chip/drops_the_new_character
+
+-- these calls, with these answers, lead from s to t; each does what is promised of it alone; and each session in them
+-- conserves, and is a run of a port
 pub record Ran (s : State) (calls : List Call) (answers : List Answer) (t : State) : Type 0 where
   pub run : IsRun s calls answers t
   pub follows : AllFollow run.links
@@ -217,3 +163,9 @@ pub record Ran (s : State) (calls : List Call) (answers : List Answer) (t : Stat
       -- these calls are a part of the run
       run.links ≡ front ++ (session ++ rest) →
       Chain s front a → Chain a session b → Chain b rest t → IsSession a session → Conserves a session b
+  -- each session among the calls is a run of a port, in which is sent what the calls report, received what they return,
+  -- and told what they tell
+  pub port : (front session rest : List Link) (a b : State) →
+      -- these calls are a part of the run
+      run.links ≡ front ++ (session ++ rest) →
+      Chain s front a → Chain a session b → Chain b rest t → IsSession a session → Refines a session b

@@ -31,12 +31,12 @@ use Rattle.uart_16550.specs.Status.{ShowsGone}
 use Rattle.uart_16550.specs.Transmit.{Sends}
 use Rattle.uart_16550.specs.Tty.{Starts, TerminalMade, inner_of}
 use Rattle.uart_16550.specs.declared.driver.Uart16550.{Uart16550}
-use Rattle.uart_events.specs.declared.call.Call.{Call}
-use Rattle.uart_events.specs.declared.call.Call.TheVariants as call
-use Rattle.uart_events.specs.declared.call.Answer.{Answer}
-use Rattle.uart_events.specs.declared.call.Answer.TheVariants.{Count, Done, Flag, InitRefused, LoopbackRefused, NoData}
-use Rattle.uart_events.specs.declared.call.Answer.TheVariants.{Register}
-use Rattle.uart_events.specs.declared.call.TheConstants.{CALL_BYTES}
+use Rattle.uart_call.specs.declared.call.Call.{Call}
+use Rattle.uart_call.specs.declared.call.Call.TheVariants as call
+use Rattle.uart_call.specs.declared.call.Answer.{Answer}
+use Rattle.uart_call.specs.declared.call.Answer.TheVariants.{Count, Done, Flag, InitRefused, LoopbackRefused, NoData}
+use Rattle.uart_call.specs.declared.call.Answer.TheVariants.{Register}
+use Rattle.uart_call.specs.declared.call.TheConstants.{CALL_BYTES}
 use Rattle.uart_calls.specs.Meaning.{exact_answer, frame_answer, frame_when_idle_answer, init_answer}
 use Rattle.uart_calls.specs.Meaning.{with_errors_answer}
 use Rattle.uart_chip.specs.Machine.{MachineState, MachineStep}

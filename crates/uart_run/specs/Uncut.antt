@@ -3,10 +3,10 @@
 use Rattle.std.specs.Prelude.{◌≡◌, ◌⊎◌, false, ℕ, List, ◌++◌, map, filter}
 use Rattle.uart_spec.specs.declared.errors.LoopbackError.TheVariants.{Stalled}
 use Rattle.uart_chip.specs.declared.receiver.Character.{Character}
-use Rattle.uart_events.specs.declared.call.Call.{Call}
-use Rattle.uart_events.specs.declared.call.Call.TheVariants as call
-use Rattle.uart_events.specs.declared.call.Answer.{Answer}
-use Rattle.uart_events.specs.declared.call.Answer.TheVariants.{Done, LoopbackRefused}
+use Rattle.uart_call.specs.declared.call.Call.{Call}
+use Rattle.uart_call.specs.declared.call.Call.TheVariants as call
+use Rattle.uart_call.specs.declared.call.Answer.{Answer}
+use Rattle.uart_call.specs.declared.call.Answer.TheVariants.{Done, LoopbackRefused}
 use Rattle.uart_chip.specs.Machine.{MachineState}
 use Rattle.uart_chip.specs.Conserved.{out, waiting, stands, arriving, between, entered}
 use Rattle.uart_run.specs.Chains.{EachLink}
@@ -15,7 +15,8 @@ use Rattle.uart_run.specs.Served.{AllServe, IsFlushed}
 use Rattle.uart_run.specs.Statuses.{Tells}
 use Rattle.uart_run.specs.Ready.{Ready, IsUnbroken}
 use Rattle.uart_run.specs.Progress.{IsTimely, IsUnheld, HasRoom}
-use Rattle.uart_run.specs.Session.{GoesOn, AllCalls, reported, received, overflows, AllFollow}
+use Rattle.uart_run.specs.Reported.{reported, received}
+use Rattle.uart_run.specs.Session.{GoesOn, AllCalls, overflows, AllFollow}
 use Rattle.uart_run.specs.Wired.{IsWired}
 
 -- This second form follows from the first. It is stated so that nobody has to see that `map (cut_of c) bytes` is

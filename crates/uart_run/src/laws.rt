@@ -1,7 +1,8 @@
 //! Laws of driver and machine together. They follow from the contracts.
 //!
 //! The contract of each function is a law that callers can cite. The functions do nothing.
-ghost use Rattle.std.specs.Prelude.{◌≡◌, ◌≢◌, ℕ, Bool, List, true, false, Result, Ok, Err};
+ghost use Rattle.std.specs.Prelude.{◌≡◌, ◌≢◌, ℕ, Bool, List, [], ◌∷◌, ◌++◌, map, true, false, Result, Ok, Err};
+ghost use Rattle.std.specs.List.{AllByRecursion};
 ghost use Rattle.uart_16550.specs.Configured.{Verdict, ChecksConfigured};
 ghost use Rattle.uart_16550.specs.Driver.{Did, Made, backend_of, fields};
 ghost use Rattle.uart_16550.specs.Frame.{SetsBreak, SetsOutput};
@@ -21,8 +22,10 @@ ghost use Rattle.uart_16550.specs.Receive.{ReceivesWithErrors};
 ghost use Rattle.uart_spec.specs.declared.registers.modem_control.TheConstants.MCR;
 ghost use Rattle.uart_16550.specs.declared.driver.Uart16550.{Uart16550};
 ghost use Rattle.uart_spec.specs.declared.received.Received.{Received};
-ghost use Rattle.uart_chip.specs.Chip.{ticks};
+ghost use Rattle.uart_chip.specs.Chip.{cut_of, ticks};
+ghost use Rattle.uart_chip.specs.Conserved.{waiting};
 ghost use Rattle.uart_chip.specs.Machine.{MachineState, MachineStep, fresh, cutting, at_mark};
+ghost use Rattle.uart_chip.specs.PortLaws.{LosesNothingSilently};
 ghost use Rattle.uart_events.specs.declared.event.Chip.{Chip};
 ghost use Rattle.uart_events.specs.declared.event.Chip.TheVariants.{Uart16450};
 ghost use Rattle.uart_events.specs.declared.event.Event.{Event};
@@ -30,10 +33,13 @@ ghost use Rattle.uart_spec.specs.declared.access.Access.{Access};
 ghost use Rattle.uart_spec.specs.declared.access.Access.TheVariants.{Read};
 ghost use Rattle.uart_spec.specs.declared.registers.offsets.TheConstants as offsets;
 ghost use Rattle.uart_run.specs.Wired.{IsWiredChip};
-ghost use Rattle.uart_events.specs.declared.call.Call.{Call};
-ghost use Rattle.uart_events.specs.declared.call.Answer.{Answer};
-ghost use Rattle.uart_run.specs.Run.{State, IsRun};
-ghost use Rattle.uart_run.specs.Session.{Ran};
+ghost use Rattle.uart_call.specs.declared.call.Call.{Call};
+ghost use Rattle.uart_call.specs.declared.call.Call.TheVariants.{Lsr};
+ghost use Rattle.uart_call.specs.declared.call.Answer.{Answer};
+ghost use Rattle.uart_run.specs.Refines.{arrived, port_of, told};
+ghost use Rattle.uart_run.specs.Reported.{received, reported};
+ghost use Rattle.uart_run.specs.Run.{Chain, IsRun, Link, State, machine_of};
+ghost use Rattle.uart_run.specs.Session.{IsSession, Ran};
 ghost use Rattle.uart_run.specs.StandsFor.{ChecksFrame, ChecksFrameWhenIdle, ChecksInit, ChecksInitWith};
 ghost use Rattle.uart_run.specs.StandsFor.{EndsSession, LooksInTurn, ReadsControl, ReceivesInTurn, ReceivesOne, SendsFront};
 ghost use Rattle.uart_run.specs.StandsFor.{SendsInTurn, SendsParts, SendsSized, StartsTerminal};
@@ -388,6 +394,48 @@ pub fn switches_keep_ready()
         Made MachineStep (SetsBreak on) before after →
         Ready (under_terminal after) }
 {}
+
+/// The calls of a session lose nothing silently. What goes out grew by exactly what they reported
+/// as sent; what they received, and then what waits, is what waited and what arrived, in order,
+/// with some left out; and none is left out where no `lsr` of the session showed an overrun, and
+/// neither chip nor driver has one left to show. An `lsr` leaves none: so if the last call is one,
+/// and none showed an overrun, nothing was lost.
+///
+/// That is all that a program needs to know of a session to rely on its bytes. It follows from the
+/// main theorem, that driver and chip are a port, and from a law of ports alone.
+///
+/// # Examples
+///
+/// ```
+/// sessions_lose_nothing_silently(&uart);
+/// ```
+pub fn sessions_lose_nothing_silently(uart: &Uart16550<Device16550>)
+    // promise: a session loses nothing silently: what it sent is in what goes out, what it received
+    //   and what waits is what waited and arrived, in order, with some left out, and none if no
+    //   `lsr` of it showed an overrun and the last call is one
+    // with: sessions_lose_nothing_silently.loses_nothing, sessions_lose_nothing_silently.keeps_all,
+    //   ports_lose_nothing_silently, LosesNothingSilently.sends, LosesNothingSilently.receives,
+    //   LosesNothingSilently.tells
+    // shown by: what_is_said_of_sessions_holds_of_random_runs
+    // refused: what_an_overrun_lost_is_kept, uart_chip/losses_may_stay_untold
+    ensures loses_nothing { (links : List Link) (after : State) →
+        IsSession (under_terminal uart.now) links → Chain (under_terminal uart.now) links after →
+        LosesNothingSilently (port_of (under_terminal uart.now))
+        (map (cut_of (backend_of uart.now).chip) (reported links)) (received links)
+        (arrived (under_terminal uart.now) after) (told links) (port_of after) }
+    // if: the last call is an `lsr`
+    // if: no `lsr` of these calls shows an overrun
+    ensures keeps_all { (some : List Link) (last : Link) (after : State) →
+        IsSession (under_terminal uart.now) (some ++ last ∷ []) →
+        Chain (under_terminal uart.now) (some ++ last ∷ []) after →
+        last.call ≡ Lsr →
+        AllByRecursion (λ overrun. overrun ≡ false) (told (some ++ last ∷ [])) →
+        received (some ++ last ∷ []) ++ waiting (machine_of after) ≡
+        waiting (backend_of uart.now) ++ arrived (under_terminal uart.now) after }
+{
+    // The contract of this call states what holds of every machine.
+    let _fifo = uart.backend().fifo_enabled();
+}
 
 /// What `run` promises of its calls holds of the driver's own, made in turn, one after the other.
 ///

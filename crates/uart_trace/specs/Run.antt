@@ -2,8 +2,8 @@
 use Rattle.std.specs.Prelude.{◌≡◌, true, List, []}
 use Rattle.uart_spec.specs.Access.{Path}
 use Rattle.uart_spec.specs.declared.access.Access.{Access}
-use Rattle.uart_events.specs.declared.call.Call.{Call}
-use Rattle.uart_events.specs.declared.call.Call.TheVariants as call
+use Rattle.uart_call.specs.declared.call.Call.{Call}
+use Rattle.uart_call.specs.declared.call.Call.TheVariants as call
 use Rattle.uart_spec.specs.declared.config.TheConstants.Config.{DEFAULT}
 use Rattle.uart_16550.specs.Driver.{Doing, Fields}
 use Rattle.uart_calls.specs.Meaning.{Meaning, means, meaning}

@@ -2,7 +2,7 @@
 use Rattle.std.specs.Prelude.{◌≡◌, List, [], ◌∷◌, Option, Some, None}
 use Rattle.uart_spec.specs.Access.{Path}
 use Rattle.uart_spec.specs.declared.access.Access.{Access}
-use Rattle.uart_events.specs.declared.call.Call.{Call}
+use Rattle.uart_call.specs.declared.call.Call.{Call}
 use Rattle.uart_16550.specs.Driver.{backend_of, fields}
 use Rattle.uart_16550.specs.Tty.{inner_of}
 use Rattle.uart_16550.specs.declared.tty.Uart16550Tty.{Uart16550Tty}

@@ -3,7 +3,7 @@ ghost use Rattle.std.specs.Prelude.{◌≡◌, ℕ, All, Err, IfOk};
 ghost use Rattle.uart_language.specs.Script.{IsFaulty, IsPlayable, IsScript, Plan, plan_of};
 ghost use Rattle.uart_language.specs.declared.cause.Cause.{Cause};
 ghost use Rattle.uart_language.specs.declared.cause.ScriptError.TheVariants.{Refused};
-ghost use Rattle.uart_events.specs.Calls.{IsRunnable};
+ghost use Rattle.uart_call.specs.Calls.{IsRunnable};
 ghost use Rattle.uart_trace.specs.Told.{Begins, IsToldRun, Makes, Tells, TellsInTurn};
 
 use crate::listener::Listener;

@@ -1,3 +1,1 @@
-pub mod RingSessions
-pub mod SessionCalls
 pub mod RingStarts

@@ -1,32 +1,9 @@
 //! Programs to copy. `main` asks a question over the software chip, and prints the answer.
 //!
-//! The other modules are callers to copy, of each library crate: each is proved here, and run by a
-//! test.
 #![tactic(auto)]
 
-pub mod bus;
-pub mod chip;
-pub mod design_ware;
-pub mod device;
-pub mod discovery;
-pub mod driver;
-pub mod judging;
-pub mod language;
-pub mod live;
-pub mod original;
-pub mod performing;
-pub mod playing;
 mod port;
-pub mod ring;
-pub mod ring_running;
 pub mod ring_starting;
-pub mod running;
-pub mod spec;
-#[cfg(test)]
-mod tests;
-pub mod tracing;
-pub mod virtual_port;
-pub mod waiting;
 
 use bitflags::Flags;
 use port::{PortError, ask, open};

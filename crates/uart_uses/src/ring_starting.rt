@@ -11,7 +11,7 @@ ghost use Rattle.uart_spec.specs.Config.{IsComputable};
 use std::alloc::Global;
 use uart_16550::{Config, InitError, Uart16550, Uart16550Tty};
 use uart_chip::Device16550;
-use uart_ring::{RingError, Uart16550Ring};
+use uart_ring::{Refused, RingError, Uart16550Ring};
 use uart_ring_runs::laws::init_leaves_ready;
 use uart_ring_runs::{RingAnswer, RingCall, run_ring};
 use uart_run::laws::smallest_size_fits;
@@ -49,7 +49,7 @@ pub fn start_rings(
     }
     match Uart16550Ring::new(alloc, uart, CAPACITY, CAPACITY) {
         Ok(ring) => Ok(ring),
-        Err((_uart, cause)) => Err(StartError::NoRings(cause)),
+        Err(refused) => Err(StartError::NoRings(refused.cause)),
     }
 }
 
@@ -89,7 +89,7 @@ pub fn run_from_init(
 pub fn into_rings(
     alloc: Global,
     terminal: Uart16550Tty<Device16550>,
-) -> Result<Uart16550Ring<Device16550>, (Uart16550<Device16550>, RingError)>
+) -> Result<Uart16550Ring<Device16550>, Refused<Uart16550<Device16550>, RingError>>
     ensures { Ready terminal → IfOk result (λ ring. Ready (under ring)) }
 {
     Uart16550Ring::new(alloc, terminal.into_inner(), CAPACITY, CAPACITY)

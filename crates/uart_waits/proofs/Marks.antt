@@ -1,7 +1,7 @@
 -- No handler is forgotten that came while the rings were in use.
-use Rattle.std.proofs.Common.{◌≡◌, Bool, true, false, [], ◌∷◌, refl, ◌∙◌, ap, not, ◌&&◌, ◌||◌}
+use Rattle.std.proofs.Common.{◌≡◌, Bool, true, false, [], ◌∷◌, refl, sym, ◌∙◌, ap, not, ◌&&◌, ◌||◌}
 use Rattle.std.specs.Prelude.{if◌then◌else◌}
-use Rattle.uart_waits.specs.Occupancy.{Event, LeavesNoneBehind, MarksTell, after, unserved, unserved_all}
+use Rattle.uart_waits.specs.Occupancy.{Event, LeavesNoneBehind, MarksTell, NextServes, after, after_all, unserved, unserved_all}
 use Rattle.uart_waits.specs.declared.occupancy.Occupancy.{Occupancy}
 
 handler : (taken owed : Bool) → taken ≡ (if taken then (owed || true) else (owed && false))
@@ -33,3 +33,6 @@ marks_tell o (event ∷ events) =
 
 pub leaves_none_behind : LeavesNoneBehind
 leaves_none_behind o events free = marks_tell o events ∙ free
+
+pub next_serves : NextServes
+next_serves o events owed = sym (caller false (after_all o events).is_owed) ∙ (sym (marks_tell o events) ∙ owed)

@@ -56,3 +56,10 @@ LeavesNoneBehind = (o : Occupancy) (events : List Event) →
     -- who is done leaves the rings free
     (left (after_all o events)).is_taken ≡ false →
     unserved_all o.is_owed o events ≡ false
+
+-- who comes after one that went in the middle does not leave before what was unserved is served
+abbrev pub NextServes : Type 0
+NextServes = (o : Occupancy) (events : List Event) →
+    -- a handler came for which nobody has begun to serve
+    unserved_all o.is_owed o events ≡ true →
+    (left (entered false (abandoned (after_all o events)))).is_taken ≡ true

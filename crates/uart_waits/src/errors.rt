@@ -13,15 +13,18 @@ pub enum SharedError {
     /// kernel's section let two in.
     #[error("the rings are in use by a call that is not done")]
     InUse,
+    /// At a bus of two wires the direction is not to send. Nothing was queued.
+    #[error("the direction is not to send")]
+    NotSending,
     /// The kernel's function said not to go on waiting, or the chip was not empty after as many
     /// looks as the driver's spin limit.
     #[error("waiting was given up")]
     GaveUp,
     /// What is awaited does not come, since the chip is stuck. A `restart` starts it again.
-    #[error(transparent)]
+    #[error("the chip is stuck: {0}")]
     Stuck(StuckError),
     /// Bytes in the receive ring have no note of their errors.
-    #[error(transparent)]
+    #[error("no bytes were taken: {0}")]
     Unnoted(UnnotedError),
 }
 
@@ -29,7 +32,7 @@ pub enum SharedError {
 #[derive(Clone, Copy, Debug, PartialEq, Eq, Drop, Error)]
 pub enum StartError {
     /// The rings could not be made.
-    #[error(transparent)]
+    #[error("the rings could not be made: {0}")]
     NoRings(RingError),
     /// There are rings already.
     #[error("there are rings already")]

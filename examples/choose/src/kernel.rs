@@ -1,14 +1,18 @@
 //! A kernel: a console from the first line on, and then by interrupts.
 
 use uart_16550::backend::Backend;
-use uart_16550::{Config, Uart16550, Uart16550Tty};
+use uart_16550::{BaudRate, Config, Uart16550, Uart16550Tty};
 
 /// Returns the console, or `None` if no chip works there. On a PC the registers are
 /// `X86Ports::new(0x3f8)?`, and on a board `VolatileMemory::from_address(base, stride)?`.
 pub fn console<B: Backend>(registers: B) -> Option<Uart16550Tty<B>> {
     let mut uart = Uart16550::new_with_backend(registers);
+    let config = Config {
+        baud_rate: BaudRate::Baud115200,
+        ..Config::DEFAULT
+    };
     // Finds out whether a chip is there, and sets it up: 115,200 baud, 8 data bits, FIFOs on.
-    uart.init(Config::DEFAULT).ok()?;
+    uart.init(config).ok()?;
     uart.test_loopback().ok()?;
     Some(Uart16550Tty::from_inner(uart))
 }
@@ -51,5 +55,5 @@ pub fn serve<B: Backend>(
 /// The handler of the port's interrupt. The controller is told of its end behind this.
 pub fn handle<B: Backend>(port: &Port<B>) {
     // After 100 rounds that came to nothing the chip is stuck: its interrupts are off then.
-    let _handled = port.with(|ring| ring.try_handle(4 * MAX_INTERRUPTS, 100));
+    let _handled = port.try_handle(4 * MAX_INTERRUPTS, 100);
 }

@@ -37,8 +37,10 @@ fn a_kernel_prints() {
     let mut console = kernel::console(bench()).unwrap();
     writeln!(console, "{} processors", 2).unwrap();
     console.inner_mut().flush().unwrap();
-    let sent = console.inner().backend().0.wire();
-    assert!(sent.ends_with(b"2 processors\r\n"));
+    let chip = &console.inner().backend().0;
+    assert!(chip.wire().ends_with(b"2 processors\r\n"));
+    // 115,200 baud at the 1,843,200 Hz of a PC.
+    assert_eq!(chip.divisor(), 1);
 }
 
 #[test]

@@ -144,8 +144,10 @@ const LATENESS: &str = "\
 A handler is as late as its first access, a read of ISR, comes behind the rise of the
 interrupt line. In the time of a row no character is lost, without flow control, if
   - each visit of the handler ends with Idle, and makes no more other accesses, which
-    are for no byte: one that only receives makes 5 to 12, and one that also fills the
-    transmitter up to 20 more than that takes bytes
+    are for no byte: if a character takes longer than eight accesses, one that only
+    receives makes at most 12, and one that also fills the transmitter up to 20 more
+    than that takes bytes; if it takes four or fewer, a visit may not end with Idle
+  - the other end is no faster than configured, also by its stop bits
   - the receive ring has room for a whole FIFO when a visit begins
   - interrupts are off for no longer, whatever else is called";
 
@@ -164,18 +166,6 @@ The columns of a table:
   lines           The modem inputs, as the high digit of MSR
   held, waiting   How many bytes are in the transmitter and in the receiver
   irq             The interrupt line, where it changes";
-
-const FIRST: Operand = Operand {
-    name: "FIRST",
-    count: Count::One,
-    help: "The first recording or log; standard input is read if it is -",
-};
-
-const SECOND: Operand = Operand {
-    name: "SECOND",
-    count: Count::One,
-    help: "The second one",
-};
 
 const CENSUS: &str = "\
 It takes about a second, and no cable. The outputs of the chip are off meanwhile,
@@ -213,10 +203,6 @@ pub enum Job {
     Show,
     /// Prints what happened in a recording in numbers.
     Stats,
-    /// Compares two recordings.
-    Diff,
-    /// Prints the fewest lines with a finding.
-    Shrink,
     /// Says how late a handler may be.
     Budget,
     /// Asks a chip whether it does what is taken for granted, or judges a recording of that.
@@ -471,38 +457,6 @@ recording may have any length.",
                     name: "whole",
                     value: None,
                     help: "Only what happened in all",
-                },
-                COLOR,
-                CLOCK,
-                DIVISOR,
-                FIFO,
-                CHIP,
-                FORMAT,
-                BASE,
-                STRIDE,
-                PORT,
-                IRQ,
-            ],
-            more: None,
-        },
-        Command {
-            job: Job::Diff,
-            name: "geesetrunk diff",
-            about: "Says where two recordings differ in what they mean: times and polls do not count",
-            operands: &[FIRST, SECOND],
-            flags: &[COLOR, FORMAT, BASE, STRIDE, PORT],
-            more: None,
-        },
-        Command {
-            job: Job::Shrink,
-            name: "geesetrunk shrink",
-            about: "Prints the fewest lines of a recording in which the first warning is still found",
-            operands: &[RECORDING],
-            flags: &[
-                Flag {
-                    name: "name",
-                    value: Some("NAME"),
-                    help: "What is to be found, instead of the first warning",
                 },
                 COLOR,
                 CLOCK,

@@ -1,5 +1,6 @@
 //! How a program ends.
 
+use crate::import::Encoding;
 use geesetrunk_kit::alloc::AllocError;
 use std::fmt;
 use std::io::{self, ErrorKind, Write};
@@ -102,6 +103,11 @@ impl End {
             ErrorKind::OutOfMemory => End::out_of_memory(),
             _ => End::failed(format!("{file} cannot be read: {cause}")),
         }
+    }
+
+    /// Returns the end of a program that reads text, for a file that is none.
+    pub fn encoded(file: impl fmt::Display, encoding: Encoding) -> Self {
+        End::failed(format!("{file}: {encoding}"))
     }
 
     /// Returns how the program ends.

@@ -1,6 +1,7 @@
 //! A refused script, explained: the place of the fault, the line, and what is accepted there.
 
 use crate::grammar::{Field, fields_after, form_of, words_of_lines};
+use crate::import::{Refusal, Refused};
 use crate::near::nearest;
 use crate::ring_language::{is_ring_line, rings_at};
 use crate::terminal::{Paint, Style};
@@ -19,20 +20,7 @@ pub struct Explanation<'a> {
     /// What is wrong.
     pub cause: Cause,
     /// The line with the fault. A script with too many bytes has none.
-    pub line: Option<FaultyLine>,
-}
-
-/// The line with the fault of a script.
-#[derive(Debug, PartialEq, Eq)]
-pub struct FaultyLine {
-    /// The number of the line, counted from 1.
-    pub number: u32,
-    /// The line, with `?` for what is not printable.
-    pub shown: String,
-    /// The column of the fault, counted from 1.
-    pub column: usize,
-    /// What is accepted in that column.
-    pub wants: String,
+    pub line: Option<Refused>,
 }
 
 // Returns the column in which a word of the line starts, counted from 1. A word after the last would
@@ -145,12 +133,13 @@ impl<'a> Explanation<'a> {
         let line = number.checked_sub(1).map(|index| {
             let line = line_at(script, index as usize);
             let (column, wants) = place_of(number, line, cause, rings_at(script));
-            FaultyLine {
-                number,
-                shown: printable(line),
+            let cause = cause.text();
+            let refusal = Refusal {
                 column,
+                cause,
                 wants,
-            }
+            };
+            Refused::new(number.into(), line, refusal)
         });
         Explanation { file, cause, line }
     }
@@ -162,18 +151,12 @@ impl<'a> Explanation<'a> {
     ///
     /// The error of the writer.
     pub fn write(&self, out: &mut impl fmt::Write, style: Style) -> fmt::Result {
-        let (file, cause) = (self.file, style.painted(Paint::Fault, self.cause.text()));
-        let Some(line) = &self.line else {
-            let place = style.painted(Paint::Place, file);
-            return writeln!(out, "{place}: {cause}: a script has at most 65536 bytes");
-        };
-        let place = format!("{file}:{}:{}", line.number, line.column);
-        let place = style.painted(Paint::Place, &place);
-        let caret = style.painted(Paint::Caret, "^");
-        let before = " ".repeat(line.column - 1);
-        writeln!(out, "{place}: {cause}")?;
-        writeln!(out, "{}", line.shown)?;
-        writeln!(out, "{before}{caret} {}", line.wants)
+        if let Some(line) = &self.line {
+            return writeln!(out, "{}", line.text(self.file, style));
+        }
+        let cause = style.painted(Paint::Fault, self.cause.text());
+        let place = style.painted(Paint::Place, self.file);
+        writeln!(out, "{place}: {cause}: a script has at most 65536 bytes")
     }
 }
 

@@ -12,8 +12,9 @@ use crate::json::Quoted;
 use crate::judging::{Found, Judge, Judged, Stop, judge_recording};
 use crate::known::Known;
 use crate::log::Log;
+use crate::refused_trace::{refused_in_trace, stray_in_trace};
 use crate::sarif::Sarif;
-use crate::streams::{Output, bytes_of, print, standard_output};
+use crate::streams::{Output, print, standard_output, text_of};
 use crate::terminal::{Paint, Style};
 use crate::text::counted;
 use std::cell::RefCell;
@@ -294,29 +295,29 @@ fn stray_line(trace: &[u8], limit: NonZeroU64, fifo_size: FifoSize) -> Result<St
 }
 
 // Prints where a trace strays. For people that is an error, on standard error.
-fn print_stray(file: &str, name: &str, line: &str, format: Format<'_>) -> Result<(), End> {
+fn print_stray(file: &str, trace: &[u8], line: &str, format: Format<'_>) -> Result<(), End> {
+    let parts = line
+        .strip_prefix("line ")
+        .and_then(|line| line.split_once(": "));
+    let (line, text) = parts.unwrap_or(("1", line));
     match format {
         Format::Lines(_) | Format::AllLines(_) => {
+            let stray = stray_in_trace(trace, line.parse().unwrap_or(1), text);
+            let text = stray.text(file, Style::of(&io::stderr()));
             // If standard error cannot be written, the exit status still says that it strays.
-            let _ = writeln!(io::stderr(), "{name}{line}");
+            let _ = writeln!(io::stderr(), "{text}");
         }
-        Format::Json | Format::Sarif(_) => {
-            let parts = line
-                .strip_prefix("line ")
-                .and_then(|line| line.split_once(": "));
-            let (line, text) = parts.unwrap_or(("1", line));
-            let object = match format {
-                Format::Sarif(sarif) => sarif.result(file, line, "stray", "stray", text, 1),
-                _ => json(file, line, "stray", "stray", text, 1) + "\n",
-            };
-            print(object.as_bytes())?;
+        Format::Json => print((json(file, line, "stray", "stray", text, 1) + "\n").as_bytes())?,
+        Format::Sarif(sarif) => {
+            let result = sarif.result(file, line, "stray", "stray", text, 1);
+            print(result.as_bytes())?;
         }
     }
     Err(End::told(Status::Refused))
 }
 
 /// Verifies the trace of this name, and prints where it strays. It is of a driver with this limit, which takes the FIFOs to be of this
-/// size. Messages have the name of the file in front if there are several.
+/// size.
 ///
 /// # Errors
 ///
@@ -327,20 +328,18 @@ pub fn verified(
     limit: NonZeroU64,
     fifo_size: FifoSize,
     format: Format<'_>,
-    is_one_of_several: bool,
 ) -> Result<(), End> {
-    let name = if is_one_of_several {
-        format!("{file}: ")
-    } else {
-        String::new()
-    };
     // One byte more than the longest trace has: so input without end is refused.
-    let trace = bytes_of(file, MOST_TRACE_BYTES as u64 + 1)?;
+    let trace = text_of(file, MOST_TRACE_BYTES as u64 + 1)?;
     match stray_line(&trace, limit, fifo_size) {
         Ok(line) if line.is_empty() => Ok(()),
-        Ok(line) => print_stray(file, &name, &line, format),
+        Ok(line) => print_stray(file, &trace, &line, format),
         Err(VerifyError::NoTrace(TraceError::OutOfMemory)) => Err(End::out_of_memory()),
-        Err(error) => Err(End::failed(format!("{name}{error}"))),
+        Err(VerifyError::NoTrace(TraceError::NoTrace { line, fault })) => {
+            let refused = refused_in_trace(&trace, line, fault);
+            Err(End::failed(refused.text(file, Style::of(&io::stderr()))))
+        }
+        Err(error @ VerifyError::TooLong) => Err(End::failed(format!("{file}: {error}"))),
     }
 }
 

@@ -21,7 +21,7 @@ mod words;
 
 pub use address::{MOST_STRIDE, Seen, Window};
 pub use detect::{Guess, Shown};
-pub use encoding::Encoding;
+pub use encoding::{Encoding, text_in};
 pub use json::each_member;
 pub use printing::import;
 pub use reader::{Imported, Opened, Unopened, open_log};

@@ -15,7 +15,7 @@ use crate::picture::{DrawnEnd, picture_of_link};
 use crate::ring_language::{AnyScript, RingScript, parse};
 use crate::rings::{Scheduled, ring_lines, rings_over, run_rings};
 use crate::script::{kind_of, title};
-use crate::streams::{bytes_of, print};
+use crate::streams::{print, script_of};
 use crate::terminal::Style;
 use crate::text::{STANDARD_INPUT, lines, words};
 use bounds::{Bounded, bounds};
@@ -30,7 +30,7 @@ use uart_16550::{Uart16550, Uart16550Tty};
 use uart_calls::{Answer, Call, perform};
 use uart_chip::Event;
 use uart_language::{Script, ScriptError, push_answer, render};
-use uart_trace::{MOST_READ, plain};
+use uart_trace::plain;
 
 /// How many ticks it takes from one end to the other, unless it is said.
 pub const USUAL_DELAY: u64 = 1;
@@ -400,7 +400,7 @@ pub fn link(link: &Link<'_>) -> Result<(), End> {
         let cause = "standard input is one script: name a file for the other";
         return Err(End::failed(cause));
     }
-    let bytes_at = |side: usize| bytes_of(link.files[side], MOST_READ);
+    let bytes_at = |side: usize| script_of(link.files[side]);
     print(told(link, bytes_at, play_both)?.as_bytes())
 }
 

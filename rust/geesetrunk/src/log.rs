@@ -159,7 +159,7 @@ impl<'a> Log<'a> {
 fn unopened(file: &str, cause: Unopened) -> End {
     match cause {
         Unopened::Unread(cause) => End::unread(file, cause),
-        Unopened::Encoded(encoding) => End::failed(format!("{file}: {encoding}")),
+        Unopened::Encoded(encoding) => End::encoded(file, encoding),
         Unopened::Unsure(guess) => End::failed(format!(
             "{file}: {guess} are accesses in words, which is too few for a guess. Say by --format what it is, as --format words"
         )),

@@ -12,8 +12,10 @@ use uart_language::Cause;
 // What is expected where a word is empty.
 const ONE_SPACE: &str = "exactly one space between two words, and none at the end";
 
-const OFFSET: &str = "the offset of a register: a digit from 0 to 7, without 0x";
-const BYTE: &str = "a byte: two hexadecimal digits, without 0x";
+/// What the second word of an access is.
+pub const OFFSET: &str = "the offset of a register: a digit from 0 to 7, without 0x";
+/// What the third word of an access is.
+pub const BYTE: &str = "a byte: two hexadecimal digits, without 0x";
 const LEVEL: &str =
     "the level of the interrupt line: 0, 1, or 2 if it is unknown; or a time behind @";
 const TIME: &str = "a time: @ and nanoseconds";

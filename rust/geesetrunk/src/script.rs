@@ -9,7 +9,7 @@ use crate::page::page_of_run;
 use crate::picture::picture;
 use crate::ring_language::{AnyScript, parse};
 use crate::rings::play_rings;
-use crate::streams::{Output, bytes_of, print, standard_output};
+use crate::streams::{Output, print, script_of, standard_output};
 use crate::table::write_table;
 use crate::terminal::Style;
 use crate::text::{counted, file_name};
@@ -21,7 +21,7 @@ use uart_language::fields::ChipKind;
 use uart_language::{Script, ScriptError};
 use uart_play::{PlayError, Std, play};
 use uart_spec::FifoSize;
-use uart_trace::{MOST_READ, plain};
+use uart_trace::plain;
 
 /// What to do with a script.
 #[derive(Clone, Copy, Debug, PartialEq, Eq)]
@@ -144,7 +144,7 @@ fn refused(task: Task, explanation: &Explanation<'_>, error: ScriptError) -> Res
 /// How the program ends: the file cannot be read, the script is refused, or the output cannot be
 /// written.
 pub fn report(task: Task, file: &str) -> Result<(), End> {
-    let bytes = bytes_of(file, MOST_READ)?;
+    let bytes = script_of(file)?;
     let text = plain(heap(), &bytes)?;
     match parse(&text) {
         Ok(script) => {

@@ -3,6 +3,7 @@
 
 use crate::closed::{Stream, is_closed};
 use crate::end::End;
+use crate::import::text_in;
 use crate::terminal::Progress;
 use crate::text::STANDARD_INPUT;
 use std::cell::RefCell;
@@ -10,6 +11,7 @@ use std::fs::File;
 use std::io::{self, BufWriter, Read, Stderr, Write};
 #[cfg(unix)]
 use std::os::fd::AsFd;
+use uart_trace::MOST_READ;
 
 // Returns a file for a standard stream. Unlike the stream itself, the file reports each error: the
 // standard library takes a stream that cannot be used for an empty one.
@@ -84,6 +86,25 @@ pub fn bytes_of(file: &str, most: u64) -> Result<Vec<u8>, End> {
     open(file)
         .and_then(|opened| first_bytes(opened, most))
         .map_err(|cause| End::unread(file, cause))
+}
+
+/// Returns the text of a file, without what programs leave around its lines, or of its first `most` bytes if it has more.
+///
+/// # Errors
+///
+/// How a program ends that cannot read the file, or to which it is no text.
+pub fn text_of(file: &str, most: u64) -> Result<Vec<u8>, End> {
+    text_in(bytes_of(file, most)?).map_err(|encoding| End::encoded(file, encoding))
+}
+
+/// Returns the script that a file has, with its comments. Of one that is too long so much is read that it is refused.
+///
+/// # Errors
+///
+/// How a program ends that cannot read the file, or to which it is no text.
+pub fn script_of(file: &str) -> Result<Vec<u8>, End> {
+    // Each line may have a byte more than the proved language sees, and the first one has a mark in front.
+    text_of(file, 2 * MOST_READ + 3)
 }
 
 /// Prints bytes to standard output.

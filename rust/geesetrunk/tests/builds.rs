@@ -1,12 +1,10 @@
-//! What a build needs that judges logs: known findings, a piece to report, colours that can be asked for, and an output that is told of if
-//! it is gone.
+//! What a build needs that judges logs: known findings, colours that can be asked for, and an output that is told of if it is gone.
 
 mod common;
 
 use common::{EXAMPLES, GEESETRUNK, UART_SCRIPT, parts, run};
 use std::env::temp_dir;
 use std::fs;
-use std::path::Path;
 use std::process::{Command, Stdio, id};
 
 const WRONG: &str = "recordings/wrong-driver.recording";
@@ -70,60 +68,6 @@ fn a_name_that_is_allowed_is_no_fault() {
         error.contains("A similar one is sent-beyond-room"),
         "{error}"
     );
-}
-
-fn lines_of(text: &str) -> Vec<&str> {
-    text.lines().filter(|line| !line.starts_with('#')).collect()
-}
-
-// The piece of each kind of finding still shows it, and no line of it can be left out. What is found after the last line needs that line.
-#[test]
-fn a_piece_has_the_fewest_lines() {
-    let folder = Path::new(EXAMPLES).join("recordings/kinds");
-    let mut count = 0;
-    for entry in fs::read_dir(folder).unwrap() {
-        let path = entry.unwrap().path();
-        let name = path.file_stem().unwrap().to_str().unwrap();
-        let is_recording = path.extension().is_some_and(|is| is == "recording");
-        if !is_recording {
-            continue;
-        }
-        let words = ["shrink", "--name", name, path.to_str().unwrap()];
-        let (status, piece, error) = parts(&run(GEESETRUNK, &words, b""));
-        assert_eq!((status, error.as_str()), (0, ""), "{name}");
-        let is_found = |piece: &str| {
-            ["audit", "replay"].iter().any(|judge| {
-                let output = run(GEESETRUNK, &[judge, "--json"], piece.as_bytes());
-                String::from_utf8_lossy(&output.stdout).contains(&format!("\"name\":\"{name}\""))
-            })
-        };
-        assert!(is_found(&piece), "{name}: {piece}");
-        let lines = lines_of(&piece);
-        for left_out in 0..lines.len() - 1 {
-            let mut less = lines.clone();
-            // A read may be there for its repeat alone.
-            if less[left_out + 1].starts_with('x') {
-                continue;
-            }
-            less.remove(left_out);
-            assert!(
-                !is_found(&(less.join("\n") + "\n")),
-                "{name}: {left_out} of {piece}"
-            );
-        }
-        count += 1;
-    }
-    assert!(count > 30, "{count}");
-}
-
-#[test]
-fn a_fault_over_thousands_of_lines_is_a_few() {
-    let boot = "r 5 60\nw 0 41\nw 3 03\n".repeat(800);
-    let log = format!("w 2 07\n{boot}r 2 02\n");
-    let words = ["shrink", "--name", "fifo-bits"];
-    let (status, piece, _) = parts(&run(GEESETRUNK, &words, log.as_bytes()));
-    assert_eq!(status, 0);
-    assert!(lines_of(&piece).len() <= 3, "{piece}");
 }
 
 #[test]
@@ -192,9 +136,7 @@ fn a_closed_output_is_told() {
         &["replay", WRONG],
         &["show", WRONG],
         &["stats", WRONG],
-        &["shrink", WRONG],
         &["import", WRONG],
-        &["diff", WRONG, "recordings/wrong-latch.recording"],
         &["explain"],
         &["manual"],
         &["budget"],

@@ -86,7 +86,7 @@ fn what_a_recording_says_of_itself_counts_for_nothing() {
     fs::remove_file(&claims).unwrap();
     assert_eq!(status, 1);
     assert!(
-        out.contains("22 hold, 20 differ, 13 cannot be seen\n"),
+        out.contains("22 hold, 20 differ, 16 cannot be seen\n"),
         "{out}"
     );
 }

@@ -2,7 +2,7 @@
 
 mod common;
 
-use common::{DOCS, GEESETRUNK, UART_PORT, parts, run};
+use common::{EXAMPLES, GEESETRUNK, UART_PORT, parts, run};
 use std::fs;
 use std::path::Path;
 
@@ -152,7 +152,7 @@ fn several_files_are_judged_in_turn() {
 }
 
 #[test]
-fn findings_of_several_traces_have_the_name_of_the_file() {
+fn findings_of_traces_have_their_place() {
     let words = [
         "verify",
         "traces/no-call.trace",
@@ -163,9 +163,67 @@ fn findings_of_several_traces_have_the_name_of_the_file() {
     assert_eq!((status, text.as_str()), (2, ""));
     assert_eq!(
         errors,
-        "traces/forgets-an-overrun.trace: line 7: '= ok 60' strays: the driver returns '= ok 62'\n\
-         send.script: line 1: misplaced\n"
+        "traces/forgets-an-overrun.trace:7:6: strays\n= ok 60\n     ^ the driver returns '= ok 62'\n\
+         send.script:1:1: misplaced\nchip 16450 4 64\n^ a call of the driver, its accesses, its answer behind =, or fresh\n"
     );
+}
+
+#[test]
+fn scripts_and_traces_are_read_as_logs_are() {
+    let read = |name: &str| fs::read_to_string(Path::new(EXAMPLES).join(name)).unwrap();
+    for (command, name) in [
+        ("play", "overrun.script"),
+        ("check", "overrun.script"),
+        ("trace", "overrun.script"),
+        ("timeline", "overrun.script"),
+        ("verify", "traces/forgets-an-overrun.trace"),
+    ] {
+        let text = read(name);
+        let lines = text.replace('\n', "\r\n");
+        let plain = parts(&run(GEESETRUNK, &[command], text.as_bytes()));
+        for other in [
+            lines.clone(),
+            format!("\u{feff}{text}"),
+            format!("\u{feff}{lines}"),
+        ] {
+            let found = parts(&run(GEESETRUNK, &[command], other.as_bytes()));
+            assert_eq!(found, plain, "{command}");
+        }
+    }
+    let program = [&b"\x7fELF\x02\x01"[..], &[0; 5000]].concat();
+    for (bytes, said) in [
+        (
+            &b"\x1f\x8b\x08\0\0\0\0\0"[..],
+            "it is compressed by gzip. Write zcat FILE | geesetrunk COMMAND",
+        ),
+        (
+            b"\xff\xfec\0h\0",
+            "its text is in UTF-16. Write iconv -f UTF-16 -t UTF-8 FILE | geesetrunk COMMAND",
+        ),
+        (&program, "it is a program, and no text"),
+    ] {
+        for words in [
+            &["play"][..],
+            &["check"],
+            &["trace"],
+            &["timeline"],
+            &["verify"],
+            &["link", "-", "overrun.script"],
+        ] {
+            let (status, text, error) = parts(&run(GEESETRUNK, words, bytes));
+            assert_eq!((status, text.as_str()), (2, ""), "{words:?}");
+            assert_eq!(error, format!("-: {said}\n"), "{words:?}");
+        }
+    }
+}
+
+#[test]
+fn of_a_long_line_a_part_is_shown() {
+    for (word, status) in [("play", 1), ("verify", 2)] {
+        let (found, _, error) = parts(&run(GEESETRUNK, &[word], &[b'\x01'; 4000]));
+        assert_eq!(found, status);
+        assert!(error.lines().all(|line| line.len() <= 200), "{error}");
+    }
 }
 
 #[test]
@@ -367,7 +425,6 @@ fn bash_completes_words() {
         ("geesetrunk audit --format kv", 3, "kvm"),
         ("geesetrunk play --color al", 3, "always"),
         ("geesetrunk stats --chip 1675", 3, "16750"),
-        ("geesetrunk shrink --name divisor-z", 3, "divisor-zero"),
         ("geesetrunk explain sent-b", 2, "sent-beyond-room"),
         (
             "geesetrunk explain divisor-zero sent-b",
@@ -395,16 +452,46 @@ fn bash_completes_words() {
     }
 }
 
+// Each command that the help lists, and each option of its own help, stands in the manual page.
 #[test]
-fn the_manual_page_is_what_is_stored() {
-    let stored = Path::new(DOCS).join("geesetrunk.1");
-    let (status, page, _) = parts(&run(GEESETRUNK, &["manual"], b""));
-    assert_eq!(status, 0);
-    let stored = fs::read_to_string(stored).unwrap();
-    assert!(
-        page == stored,
-        "docs/geesetrunk.1 is not what `geesetrunk manual` prints:\n{page}"
-    );
+fn the_manual_page_has_each_command_and_option() {
+    let printed = |words: &[&str]| {
+        let (status, text, errors) = parts(&run(GEESETRUNK, words, b""));
+        assert_eq!((status, errors.as_str()), (0, ""), "{words:?}");
+        text
+    };
+    let first_word = |line: &str| {
+        line.split_whitespace()
+            .next()
+            .unwrap_or_default()
+            .to_owned()
+    };
+    // In roff a minus sign is written with a backslash.
+    let page = printed(&["manual"]).replace('\\', "");
+    let help = printed(&["--help"]);
+    let listed = help.split_once("Commands:\n").unwrap().1;
+    let commands: Vec<String> = listed
+        .lines()
+        .map_while(|line| line.strip_prefix("  "))
+        .map(first_word)
+        .collect();
+    assert!(commands.len() > 10, "{help}");
+    for command in commands.iter().filter(|command| *command != "help") {
+        assert!(
+            page.contains(&format!("fBgeesetrunk {command}fR")),
+            "{command} is not in the page"
+        );
+        let of_command = printed(&[command, "--help"]);
+        let options = of_command
+            .split_whitespace()
+            .filter(|word| word.starts_with("--") && *word != "--help");
+        for option in options.map(|option| option.trim_end_matches([',', '.', ']', ')'])) {
+            assert!(
+                page.contains(&format!("fB{option}fR")),
+                "{command} {option} is not in the page"
+            );
+        }
+    }
 }
 
 // Fails unless each judge ends so with what is on standard input.

@@ -2,7 +2,7 @@
 
 mod common;
 
-use common::{DOCS, EXAMPLES, GEESETRUNK, UART_SCRIPT, assert_as_stored, examples, run, run_in};
+use common::{GEESETRUNK, UART_SCRIPT, assert_as_stored, examples, run, run_in};
 use geesetrunk::heap;
 use std::fs;
 use std::io::Write;
@@ -32,24 +32,33 @@ fn scripts_with_rings() {
     }
 }
 
-// The first line of a session is `$` and the command. Behind it is what is printed, and the exit
-// status if it is not 0.
+// Runs a command as a session shows it: the command behind `$`, what is printed, and the exit status if it is not 0.
+fn as_in_a_session(folder: &Path, command: &str) -> Vec<u8> {
+    let words: Vec<&str> = command.split(' ').collect();
+    assert_eq!(words[..2], ["$", "geesetrunk"], "{}", folder.display());
+    let output = run_in(folder, GEESETRUNK, &words[2..], b"");
+    let mut printed = format!("{command}\n").into_bytes();
+    printed.extend([output.stdout, output.stderr].concat());
+    match output.status.code() {
+        Some(0) => {}
+        Some(status) => writeln!(printed, "exit status {status}").unwrap(),
+        None => panic!("{command}: {}", output.status),
+    }
+    printed
+}
+
+// A session has one command or more. Those of a recording and of a trace are what the judges say of it.
 #[test]
 fn sessions() {
-    for (path, stored) in examples("", "session", "session") {
-        let text = String::from_utf8(stored).unwrap();
-        let command = text.lines().next().unwrap();
-        let words: Vec<&str> = command.split(' ').collect();
-        assert_eq!(words[..2], ["$", "geesetrunk"], "{}", path.display());
-        let output = run(GEESETRUNK, &words[2..], b"");
-        let mut printed = format!("{command}\n").into_bytes();
-        printed.extend([output.stdout, output.stderr].concat());
-        match output.status.code() {
-            Some(0) => {}
-            Some(status) => writeln!(printed, "exit status {status}").unwrap(),
-            None => panic!("{}: {}", path.display(), output.status),
+    for folder in ["", "recordings", "traces"] {
+        for (path, stored) in examples(folder, "session", "session") {
+            let text = String::from_utf8(stored).unwrap();
+            let commands = text.lines().filter(|line| line.starts_with("$ "));
+            let printed: Vec<u8> = commands
+                .flat_map(|command| as_in_a_session(path.parent().unwrap(), command))
+                .collect();
+            assert_as_stored(&path, &printed, text.as_bytes());
         }
-        assert_as_stored(&path, &printed, text.as_bytes());
     }
 }
 
@@ -67,30 +76,12 @@ fn the_driver_makes_the_traces_of_scripts() {
     }
 }
 
-#[test]
-fn traces() {
-    for (path, stored) in examples("traces", "trace", "out") {
-        let output = run(GEESETRUNK, &["verify", path.to_str().unwrap()], b"");
-        assert_as_stored(&path, &output.stderr, &stored);
-        assert!(output.stdout.is_empty());
-    }
-}
-
 // Runs geesetrunk in the folder of a file, with these words and the name of the file.
 fn run_beside(path: &Path, words: &[&str]) -> Vec<u8> {
     let name = path.file_name().unwrap().to_str().unwrap();
     let words = [words, &[name]].concat();
     let output = run_in(path.parent().unwrap(), GEESETRUNK, &words, b"");
     [output.stdout, output.stderr].concat()
-}
-
-#[test]
-fn recordings() {
-    for word in ["audit", "replay"] {
-        for (path, stored) in examples("recordings", "recording", word) {
-            assert_as_stored(&path, &run_beside(&path, &[word]), &stored);
-        }
-    }
 }
 
 #[test]
@@ -103,14 +94,6 @@ fn timelines_of_recordings() {
             assert_as_stored(&path, &run_beside(&path, words), &stored);
         }
     }
-}
-
-#[test]
-fn pictures_of_documents() {
-    let stored = Path::new(DOCS).join("pictures/timeline-burst.svg");
-    let script = Path::new(EXAMPLES).join("burst.script");
-    let picture = fs::read(&stored).unwrap();
-    assert_as_stored(&stored, &run_beside(&script, &["timeline"]), &picture);
 }
 
 // The chip in software, as the chips were with which traces were recorded. These send at once, so

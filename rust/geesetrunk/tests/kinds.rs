@@ -171,7 +171,7 @@ fn hints_about_real_systems_are_true() {
         names.retain(|name| !FACTS.contains(name));
         names
     };
-    for (path, _) in examples("recordings", "recording", "audit") {
+    for (path, _) in examples("recordings", "recording", "session") {
         let name = path.file_stem().unwrap().to_str().unwrap();
         if name.starts_with("refused-") {
             continue;
@@ -227,7 +227,7 @@ fn no_cut_makes_a_fault() {
         "uboot-riscv",
         "uboot-x86",
     ];
-    let recordings = examples("recordings", "recording", "audit");
+    let recordings = examples("recordings", "recording", "session");
     for (path, _) in recordings {
         let name = path.file_stem().unwrap().to_str().unwrap();
         if !REAL.contains(&name) {

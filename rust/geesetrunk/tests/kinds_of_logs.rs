@@ -7,13 +7,12 @@ use std::fs;
 use std::path::Path;
 
 // The commands that read a log.
-const COMMANDS: [&[&str]; 7] = [
+const COMMANDS: [&[&str]; 6] = [
     &["audit"],
     &["replay"],
     &["timeline", "--recording"],
     &["show"],
     &["stats"],
-    &["shrink"],
     &["import"],
 ];
 
@@ -94,10 +93,6 @@ fn what_is_no_log_is_refused_by_every_command() {
             assert_eq!((status, text.as_str()), (2, ""), "{command:?} {error}");
             assert!(error.contains(said), "{command:?} {error}");
         }
-        let right = Path::new(EXAMPLES).join("recordings/uboot-x86.recording");
-        let words = ["diff", "-", right.to_str().unwrap()];
-        let (status, _, error) = parts(&run(GEESETRUNK, &words, log));
-        assert_eq!(status, 2, "diff {error}");
     }
 }
 

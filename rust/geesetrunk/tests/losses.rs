@@ -114,11 +114,12 @@ fn the_pages_leave_room_for_a_seventeenth_byte() {
     let pages = [
         include_str!("../../../README.md"),
         include_str!("../../../docs/PROVED.md"),
-        include_str!("../../../docs/EVIDENCE.md"),
+        // The promise stands at its law, and the page of evidence is made of it.
+        include_str!("../../../crates/uart_judges_runs/src/laws.rt"),
     ];
     let promises: Vec<&str> = pages
         .into_iter()
-        .flat_map(|page| page.split("\n\n").flat_map(sentences_or_rows))
+        .flat_map(|page| page.split("\n\n").flat_map(promises_or_paragraph))
         .filter(|text| text.contains("an access that loses"))
         .collect();
     assert!(!promises.is_empty());
@@ -127,12 +128,15 @@ fn the_pages_leave_room_for_a_seventeenth_byte() {
     }
 }
 
-// Returns the rows of a table one by one, and another paragraph whole: a sentence may go over lines.
-fn sentences_or_rows(paragraph: &str) -> Vec<&str> {
-    if paragraph.starts_with('|') {
-        paragraph.lines().collect()
-    } else {
-        vec![paragraph]
+// Returns the promises of a source one by one, and a paragraph of a page whole: a sentence may go over lines.
+fn promises_or_paragraph(paragraph: &str) -> Vec<&str> {
+    match paragraph.split_once("// promise: ") {
+        Some((_, promises)) => promises
+            .split("// promise: ")
+            .filter_map(|promise| promise.split("// with: ").next())
+            .collect(),
+        None if paragraph.contains("///") => vec![],
+        None => vec![paragraph],
     }
 }
 

@@ -6,16 +6,23 @@ use geesetrunk::judging::{Judge, judge_recording};
 use geesetrunk::known::Known;
 use geesetrunk_kit::Vec as List;
 use geesetrunk_kit::alloc::AllocError;
+use geesetrunk_kit_of_rings::alloc::Global;
 use std::alloc::{GlobalAlloc, Layout, System};
 use std::cell::Cell;
 use std::fmt::Debug;
 use std::num::NonZeroU64;
 use std::ptr;
+use uart_16550::Uart16550;
+use uart_16550::backend::Backend;
+use uart_calls::replay::Replay;
+use uart_chip::{BuildError, Chip, Device16550, Event};
 use uart_judges::findings;
 use uart_language::ScriptError;
 use uart_play::{PlayError, Std, play};
-use uart_spec::FifoSize;
+use uart_ring::{ErrorNotes, Refused, RingError, Uart16550Ring};
 use uart_spec::access::Access;
+use uart_spec::registers::offsets;
+use uart_spec::{Config, FifoSize};
 use uart_trace::{Listener, Remarks, plain, tell, trace};
 
 thread_local! {
@@ -122,6 +129,110 @@ impl Remarks for Silent {
     }
 }
 
+// A schedule of so many arrivals. Its memory is granted.
+fn schedule() -> List<Event> {
+    let left = LEFT.replace(usize::MAX);
+    let mut events = List::new(heap());
+    events.push(Event::Mark).unwrap();
+    for byte in 1..=9 {
+        events.push(Event::Arrive { byte, errors: 0 }).unwrap();
+    }
+    LEFT.set(left);
+    events
+}
+
+// What a machine has come to that was made: a byte that is written to DATA is held, all characters arrive, and each waits.
+fn used(
+    built: Result<Device16550, BuildError>,
+) -> Result<(Option<u8>, usize, Option<u8>), BuildError> {
+    built.map(|mut machine| {
+        machine.write(offsets::DATA as u8, 0xff);
+        machine.next();
+        machine.next();
+        (
+            machine.held_at(0),
+            machine.arrivals(),
+            machine.waiting_at(0),
+        )
+    })
+}
+
+// A driver whose spin limit was set, and that has saved errors.
+fn used_driver() -> Uart16550<Replay<'static>> {
+    let mut uart = Uart16550::new_with_backend(Replay::new(&[0x1e, 0x60, 0x0f]));
+    uart.set_spin_limit(NonZeroU64::new(7).unwrap());
+    let _ = uart.ready_to_receive();
+    uart
+}
+
+// Whether it is still that driver: its settings, its only access so far, the errors that it saved, and what its reads will return.
+fn is_unchanged(mut uart: Uart16550<Replay<'static>>) -> bool {
+    uart.config() == &Config::DEFAULT
+        && uart.fifo_enabled()
+        && uart.spin_limit().get() == 7
+        && uart.backend().accesses() == Some(&[Access::Read(offsets::LSR, 0x1e)])
+        && (uart.lsr().bits(), uart.msr().bits()) == (0x7e, 0x0f)
+}
+
+// Makes rings over that driver. Whether they are made or refused, the driver is the same.
+fn rings() -> (Result<usize, RingError>, bool) {
+    match Uart16550Ring::new(Global::heap(), used_driver(), 64, 16) {
+        Ok(ring) => (
+            Ok(ring.transmit_len() + ring.receive_len()),
+            is_unchanged(ring.into_inner()),
+        ),
+        Err(refused) => (Err(refused.cause), is_unchanged(refused.given)),
+    }
+}
+
+// Makes notes of errors over a backend of which one read was made. If they are refused, that backend comes back.
+fn notes() -> (Result<u8, RingError>, bool) {
+    let is_used_once =
+        |backend: &Replay<'_>| backend.accesses() == Some(&[Access::Read(offsets::LSR, 0x1e)]);
+    let mut backend = Replay::new(&[0x1e, 0x60]);
+    let _ = backend.read(offsets::LSR as u8);
+    match ErrorNotes::new(Global::heap(), backend, 16) {
+        Ok(mut notes) => {
+            let is_kept = is_used_once(notes.backend());
+            (Ok(notes.read(offsets::LSR as u8)), is_kept)
+        }
+        Err(Refused {
+            given: mut backend,
+            cause,
+        }) => {
+            let is_kept = is_used_once(&backend);
+            (
+                Err(cause),
+                is_kept && backend.read(offsets::LSR as u8) == 0x60,
+            )
+        }
+    }
+}
+
+// Each maker of a machine. The first and the last are of a chip that cuts no character, and the second of one that does.
+fn each_machine() {
+    type Make = fn() -> Result<Device16550, BuildError>;
+    let makers: [(&str, u8, Make); 4] = [
+        ("new", 0xff, || {
+            Device16550::new(heap(), Chip::Uart16550A, 4, 64, schedule())
+        }),
+        ("new_cut", 0x1f, || {
+            Device16550::new_cut(heap(), Chip::Uart16550A, 4, 64, schedule())
+        }),
+        ("new_sized", 0xff, || {
+            let size = FifoSize::SixtyFour;
+            Device16550::new_sized(heap(), Chip::Uart16550A, size, 4, 64, schedule(), false)
+        }),
+        ("new_16750", 0xff, || {
+            Device16550::new_16750(heap(), 4, 64, schedule(), false)
+        }),
+    ];
+    for (name, held, make) in makers {
+        assert_eq!(used(make()), Ok((Some(held), 9, Some(9))), "{name}");
+        each(name, Err(BuildError::OutOfMemory), || used(make()));
+    }
+}
+
 // One test, since the allocator is one.
 #[test]
 fn each_request_for_memory() {
@@ -152,6 +263,14 @@ fn each_request_for_memory() {
         let line = findings::verify(heap(), TRACE, NonZeroU64::MIN, FifoSize::Sixteen).ok()?;
         Some(line.len())
     });
+    each_machine();
+    assert_eq!((rings(), notes()), ((Ok(0), true), (Ok(0x60), true)));
+    each("rings", (Err(RingError::OutOfMemory), true), rings);
+    each(
+        "notes of errors",
+        (Err(RingError::OutOfMemory), true),
+        notes,
+    );
     for judge in [Judge::Audit, Judge::Replay] {
         each("a recording", None, || {
             judge_recording(judge, &Known::default(), RECORDING, |_| Ok(())).ok()

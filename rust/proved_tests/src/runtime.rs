@@ -5,30 +5,8 @@ use std::error::Error;
 /// A handle for the runtime.
 pub struct HostRuntime;
 
-/// A handle for the program's allocator: there is one type of it for the rings, and one for the other crates.
-pub trait Heap {
-    fn heap() -> Self;
-}
-
-impl Heap for geesetrunk_kit::alloc::Global {
-    fn heap() -> Self {
-        Self::heap()
-    }
-}
-
-impl Heap for geesetrunk_kit_of_rings::alloc::Global<'static> {
-    fn heap() -> Self {
-        Self::heap()
-    }
-}
-
 /// What gives an allocator.
-pub trait AllocGlobal {
-    /// A handle for the program's allocator.
-    fn alloc<H: Heap>(&self) -> H {
-        H::heap()
-    }
-}
+pub trait AllocGlobal {}
 
 impl AllocGlobal for HostRuntime {}
 

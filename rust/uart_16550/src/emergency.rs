@@ -13,6 +13,8 @@
 //! that stops at each access of each of its calls.
 
 use crate::access::offset_of;
+#[cfg(target_has_atomic = "8")]
+use crate::shared::{AllStopped, Rings};
 use crate::native::backend::Backend;
 use crate::native::embedded_io::Write as _;
 use crate::native::spec::registers::{LCR, MCR, offsets};
@@ -176,6 +178,55 @@ impl<B: Backend> EmergencyConsole<B> {
         let sent = self.terminal.inner_mut().send_bytes_exact(bytes);
         self.be_patient_if(sent.is_ok());
         sent
+    }
+
+    /// Sends what waits in the transmit ring of these shared rings, the oldest byte first: the lines before the panic, which a write
+    /// has put there. The rings may be in use by the call in which the panic came. They are read, and not changed, and no lock is
+    /// taken. It is all the same whether the rings are held or stuck.
+    ///
+    /// Call it after [`set_frame`](Self::set_frame), before the last words. Bytes of the burst in which the panic came are still in
+    /// the ring, so they may be sent twice: at most as many as the FIFO holds. An urgent byte is not sent. Without rings it sends
+    /// nothing.
+    ///
+    /// # Errors
+    ///
+    /// `StalledError`, with how many bytes were sent, if a wait came to its end.
+    ///
+    /// # Safety
+    ///
+    /// Nobody who was in a call over these rings goes on with it, on no processor, and no call over them is begun.
+    ///
+    /// # Examples
+    ///
+    /// ```
+    /// # use core::fmt::Write;
+    /// # use core::num::NonZeroU64;
+    /// # use uart_16550::emergency::EmergencyConsole;
+    /// # include!(concat!(env!("CARGO_MANIFEST_DIR"), "/tests/common/shared.rs"));
+    /// # fn main() {
+    /// # start();
+    /// # let patience = NonZeroU64::MIN;
+    /// # PORT.with(|ring| { ring.hold_transmit(); ring.queue(b"a line before. ") }).unwrap();
+    /// # let mut console = unsafe { EmergencyConsole::take_over(board::registers(), patience) }.unwrap();
+    /// // SAFETY: as of `take_over`, this processor returns to no call, and the others have stopped.
+    /// let _ = unsafe { console.send_queued(&PORT) };
+    /// let _ = console.write_str("no memory");
+    /// # assert_eq!(board::chip().sent, b"a line before. no memory");
+    /// # }
+    /// ```
+    #[cfg(target_has_atomic = "8")]
+    #[allow(unsafe_code)]
+    pub unsafe fn send_queued(&mut self, rings: &impl Rings) -> Result<(), StalledError> {
+        // SAFETY: the caller promises it.
+        let stopped = unsafe { AllStopped::new() };
+        let Some(rings) = rings.seize(stopped) else {
+            return Ok(());
+        };
+        let (first, second) = rings.queued();
+        self.send_bytes(first)?;
+        self.send_bytes(second).map_err(|stalled| StalledError {
+            done: first.len() + stalled.done,
+        })
     }
 
     /// Waits until all is on the line, at most as long as the patience.

@@ -33,7 +33,7 @@
 //! // `bytes` is a `&'static mut [u8]`, and `backend` reaches the device.
 //! let memory = Memory::new(bytes);
 //! let uart = Uart16550::new_with_backend(backend);
-//! let mut ring = Uart16550Ring::new(memory.global(), uart, 1024, 256).map_err(|(_uart, error)| error)?;
+//! let mut ring = Uart16550Ring::new(memory.global(), uart, 1024, 256)?;
 //! let interrupts = IER::DATA_READY | IER::RECEIVER_LINE_STATUS;
 //! ring.inner_mut().init(Config { interrupts, ..Config::DEFAULT })?;
 //! assert_eq!(ring.queue(b"hello"), 5);
@@ -48,5 +48,5 @@
 pub use geesetrunk_kit_of_rings::alloc::{Global, Memory};
 pub use uart_ring::{
     ErrorNotes, HandleEnd, Handled, LinePort, LinePorts, Lowered, MAX_CAPACITY, MAX_INTERRUPTS, ReceiveMarks,
-    RingError, StuckError, Uart16550Ring, UnnotedError, handle_line, handle_ports,
+    Refused, RingError, StuckError, Uart16550Ring, UnnotedError, handle_line, handle_ports,
 };

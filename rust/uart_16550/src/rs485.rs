@@ -46,7 +46,7 @@
 //! let mut uart = Uart16550::new_with_backend(backend);
 //! let setup = Setup { outputs: direction.receiving(MCR::READY), ..Setup::DEFAULT };
 //! uart.init_with(Config::DEFAULT, &setup)?;
-//! let mut bus = HalfDuplex::new(uart, direction).map_err(|(_uart, error)| error)?;
+//! let mut bus = HalfDuplex::new(uart, direction)?;
 //!
 //! // A question. `wait` waits by a clock of this program, and `now` tells its time, in microseconds.
 //! bus.start_sending();
@@ -73,6 +73,8 @@
 //! and tells if it is another. A transmitter that never gets empty would hold the bus for ever: `give_up` gives it back.
 //!
 //! [`HalfDuplexRing`] is such a bus over [rings](crate::ring): an interrupt handler sends and receives, and a timer of the
-//! program gives the bus back.
+//! program gives the bus back. Behind a kernel's lock, for tasks and threads that wait, it is a
+//! `SharedBus` of the module `shared`.
 
+pub use uart_ring::Refused;
 pub use uart_rs485::{BusyError, Direction, DirectionLine, EchoError, HalfDuplex, HalfDuplexRing, NotSendingError, SendError};

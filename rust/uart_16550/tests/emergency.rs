@@ -8,6 +8,9 @@ use std::sync::{Arc, Mutex, MutexGuard};
 use uart_16550::emergency::EmergencyConsole;
 use uart_16550::native::backend::Backend;
 use uart_16550::native::{AttachError, BaudRate, Config, StalledError, Uart16550};
+use uart_16550::ring::{Memory, Uart16550Ring};
+use uart_16550::rs485::{Direction, DirectionLine, HalfDuplexRing};
+use uart_16550::shared::{CriticalSection, Shared, SharedBus, SharedLine};
 use uart_16550::spec::registers::{IER, LCR, LSR, MCR, offsets};
 
 // After how many accesses a character has left the transmitter.
@@ -380,7 +383,11 @@ fn a_chip_that_is_stuck_ends_the_text_and_not_the_machine() {
     let mut console = take_over(&cable).unwrap();
     let before = cable.chip().accesses;
     for _line in 0..100 {
-        assert!(console.write_raw_text(b"a long text that nobody gets").is_err());
+        assert!(
+            console
+                .write_raw_text(b"a long text that nobody gets")
+                .is_err()
+        );
     }
     let accesses = cable.chip().accesses - before;
     assert!(accesses < 600, "{accesses} accesses");
@@ -393,6 +400,200 @@ fn a_chip_that_is_stuck_ends_the_text_and_not_the_machine() {
     assert_eq!(console.send_bytes(b"bc"), Ok(()));
     assert_eq!(console.flush(), Ok(()));
     assert_eq!(cable.chip().text(), b"xabc");
+}
+
+// ---- what waited in rings
+
+const CAPACITY: usize = 256;
+const FIFO_SIZE: usize = 16;
+
+/// A section that keeps nobody out, since nobody else is there.
+struct Alone;
+
+impl CriticalSection for Alone {
+    fn run<R>(&self, call: impl FnOnce() -> R) -> R {
+        call()
+    }
+}
+
+/// The lines before a panic: 250 bytes.
+fn lines() -> Vec<u8> {
+    (0..25)
+        .flat_map(|number| {
+            format!("line {number:03}\n")
+                .into_bytes()
+                .into_iter()
+                .chain([b' '])
+        })
+        .collect()
+}
+
+fn memory() -> Memory {
+    Memory::new(vec![0; 2 * CAPACITY].leak())
+}
+
+fn start(cable: &Cable) -> Shared<Alone, Cable> {
+    let port = Shared::new(Alone);
+    let uart = Uart16550::new_with_backend(cable.clone());
+    let started = port.start(memory().global(), uart, CAPACITY, CAPACITY);
+    started.map_err(|refused| refused.cause).unwrap();
+    port.with(|ring| ring.inner_mut().init(CONFIG))
+        .unwrap()
+        .unwrap();
+    port
+}
+
+/// What a panic handler does. Returns whether what was queued and the last words were sent.
+fn last_words(cable: &Cable, port: &Shared<Alone, Cable>) -> [bool; 2] {
+    let mut console = take_over(cable).unwrap();
+    let _ = console.set_frame(&CONFIG);
+    // SAFETY: nobody goes on with a call over the port.
+    let queued = unsafe { console.send_queued(port) };
+    let words = write!(console, "no memory");
+    let _ = console.flush();
+    [queued.is_ok(), words.is_ok()]
+}
+
+#[test]
+fn what_was_queued_goes_out_in_order_before_the_last_words() {
+    for is_in_a_call in [false, true] {
+        let cable = Cable::default();
+        let port = start(&cable);
+        let sent = if is_in_a_call {
+            // The panic handler runs over the call in whose middle the panic came, and never returns there.
+            let call = || {
+                port.with(|ring| {
+                    assert_eq!(ring.queue(&lines()), 250);
+                    resume_unwind(Box::new(last_words(&cable, &port)));
+                })
+            };
+            let ended = catch_unwind(AssertUnwindSafe(call)).unwrap_err();
+            *ended.downcast::<[bool; 2]>().unwrap()
+        } else {
+            assert_eq!(port.with(|ring| ring.queue(&lines())), Ok(250));
+            last_words(&cable, &port)
+        };
+        assert_eq!(sent, [true, true]);
+        assert_eq!(cable.chip().text(), [&lines()[..], b"no memory"].concat());
+        assert_eq!(cable.chip().cells[offsets::IER], 0);
+    }
+}
+
+#[test]
+fn what_was_queued_goes_out_after_a_stop_at_each_access() {
+    let mut access = 0;
+    loop {
+        let cable = Cable::default();
+        let port = start(&cable);
+        let stops_after = cable.chip().accesses + access;
+        cable.chip().stops_after = Some(stops_after);
+        let ended = catch_unwind(AssertUnwindSafe(|| port.with(|ring| ring.queue(&lines()))));
+        cable.chip().stops_after = None;
+        if ended.is_ok() {
+            break;
+        }
+        assert_eq!(last_words(&cable, &port), [true, true]);
+        let text = cable.chip().text();
+        // The bytes of the burst in which it stopped may be there twice.
+        let twice = |burst: usize| [&lines()[..burst], &lines()[..], b"no memory"].concat();
+        assert!(
+            (0..=FIFO_SIZE).any(|burst| text == twice(burst)) || text == twice(0),
+            "stopped at {access}: {:?}",
+            String::from_utf8_lossy(&text)
+        );
+        access += 1;
+    }
+    assert!(access > FIFO_SIZE);
+}
+
+#[test]
+fn what_is_held_or_wraps_in_the_ring_goes_out_too() {
+    let cable = Cable::default();
+    let port = start(&cable);
+    let first = vec![b'.'; 200];
+    port.with(|ring| assert_eq!(ring.queue(&first), 200))
+        .unwrap();
+    while port.with(|ring| ring.transmit_len()).unwrap() > 0 {
+        port.with(|ring| ring.resume_transmit()).unwrap();
+    }
+    port.with(|ring| {
+        ring.hold_transmit();
+        assert_eq!(ring.queue(&lines()), 250);
+        assert!(!ring.queued().1.is_empty());
+    })
+    .unwrap();
+    assert_eq!(last_words(&cable, &port), [true, true]);
+    assert_eq!(
+        cable.chip().text(),
+        [&first, &lines()[..], b"no memory"].concat()
+    );
+}
+
+#[test]
+fn a_chip_that_is_stuck_ends_what_was_queued() {
+    let cable = Cable::default();
+    let port = start(&cable);
+    cable.chip().is_stuck = true;
+    assert_eq!(port.with(|ring| ring.queue(&lines())), Ok(250));
+    let before = cable.chip().accesses;
+    assert_eq!(last_words(&cable, &port), [false, false]);
+    let accesses = cable.chip().accesses - before;
+    assert!(accesses < 1000, "{accesses} accesses");
+    // Each error tells how many bytes were sent.
+    let mut console = take_over(&cable).unwrap();
+    // SAFETY: nobody goes on with a call over the port.
+    let stalled = unsafe { console.send_queued(&port) };
+    assert_eq!(stalled, Err(StalledError { done: 0 }));
+}
+
+#[test]
+fn lines_and_buses_have_their_last_words_too() {
+    let cable = Cable::default();
+    let line = SharedLine::<_, _, 2>::new(Alone);
+    let started = line.start(
+        1,
+        memory().global(),
+        Uart16550::new_with_backend(cable.clone()),
+        CAPACITY,
+        CAPACITY,
+    );
+    started.map_err(|refused| refused.cause).unwrap();
+    line.with_port(1, |ring| ring.hold_transmit()).unwrap();
+    assert_eq!(line.with_port(1, |ring| ring.queue(b"line, ")), Ok(6));
+
+    let ring = Uart16550Ring::new(
+        memory().global(),
+        Uart16550::new_with_backend(Cable::default()),
+        CAPACITY,
+        CAPACITY,
+    );
+    let direction = Direction {
+        line: DirectionLine::Rts,
+        sends_when_set: true,
+    };
+    let bus = HalfDuplexRing::new(ring.map_err(|refused| refused.cause).unwrap(), direction);
+    let shared = SharedBus::new(Alone);
+    assert!(
+        shared
+            .start_with(bus.map_err(|refused| refused.cause).unwrap())
+            .is_ok()
+    );
+    shared.with(|bus| bus.start_sending()).unwrap();
+    assert_eq!(shared.with(|bus| bus.queue(&lines())), Ok(Ok(250)));
+
+    let mut console = take_over(&cable).unwrap();
+    assert_eq!(console.set_frame(&CONFIG), Ok(()));
+    // SAFETY: nobody goes on with a call over any of them.
+    unsafe {
+        assert_eq!(console.send_queued(&line.port(0)), Ok(()));
+        assert_eq!(console.send_queued(&line.port(7)), Ok(()));
+        assert_eq!(console.send_queued(&Shared::<_, Cable>::new(Alone)), Ok(()));
+        assert_eq!(console.send_queued(&line.port(1)), Ok(()));
+        assert_eq!(console.send_queued(&shared), Ok(()));
+    }
+    assert_eq!(console.flush(), Ok(()));
+    let text = cable.chip().text();
+    assert_eq!(text, [b"line, ", &lines()[FIFO_SIZE..]].concat());
 }
 
 /// What is at an address where nothing is.

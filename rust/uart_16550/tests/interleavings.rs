@@ -196,7 +196,7 @@ fn port(scheduler: &Arc<Scheduler>, cable: &Cable) -> Port {
     let memory = Memory::new(vec![0; TRANSMIT_CAPACITY + RECEIVE_CAPACITY].leak());
     let uart = Uart16550::new_with_backend(cable.clone());
     let started = port.start(memory.global(), uart, TRANSMIT_CAPACITY, RECEIVE_CAPACITY);
-    started.map_err(|(_uart, cause)| cause).unwrap();
+    started.unwrap();
     let config = Config {
         interrupts: IER::DATA_READY | IER::RECEIVER_LINE_STATUS,
         ..Config::DEFAULT

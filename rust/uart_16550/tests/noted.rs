@@ -171,7 +171,7 @@ fn missing_notes_are_told() {
     );
     let mut blocking = port.blocking(Arrives(&port, 0));
     assert_eq!(blocking.read_with_errors(&mut slots), told);
-    assert_eq!(SharedError::Unnoted(missing).to_string(), missing.to_string());
+    assert_eq!(SharedError::Unnoted(missing).to_string(), format!("no bytes were taken: {missing}"));
     assert_eq!(slots, [Received::default(); 4]);
 }
 
@@ -184,6 +184,6 @@ fn memory_for_notes_is_refused_as_that_of_rings() {
     ] {
         let memory = Memory::new(Box::leak(vec![0; size].into_boxed_slice()));
         let refused = ErrorNotes::new(memory.global(), Chip::default(), capacity);
-        assert!(matches!(refused, Err((_, found)) if found == wanted));
+        assert!(matches!(refused, Err(refused) if refused.cause == wanted));
     }
 }

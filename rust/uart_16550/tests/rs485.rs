@@ -55,7 +55,7 @@ fn a_port_that_is_set_up_to_receive() {
     let of_mcr = |made: &[(u8, u8)]| made.iter().filter(|one| one.0 == 4).map(|one| one.1).collect::<Vec<u8>>();
     assert_eq!(of_mcr(&uart.backend().made), [0x09]);
     uart.backend_mut().made.clear();
-    let mut bus = HalfDuplex::new(uart, DIRECTION).map_err(|(_uart, error)| error).unwrap();
+    let mut bus = HalfDuplex::new(uart, DIRECTION).unwrap();
     assert_eq!(bus.send_bytes(b"x"), Err(NotSendingError));
     bus.start_sending();
     assert_eq!(bus.send_bytes(b"x"), Ok(1));
@@ -73,7 +73,7 @@ fn errors_have_texts_and_the_bus_may_go_to_another_thread() {
     assert_eq!(is_error(NotSendingError), "the direction is not to send");
     assert_eq!(is_error(SendError::NotSending), "the direction is not to send");
     let stalled = SendError::Stalled(StalledError { done: 3 });
-    assert_eq!(is_error(stalled), "the device stalled after 3 bytes");
+    assert_eq!(is_error(stalled), "not all bytes were sent: the device stalled after 3 bytes");
     assert_eq!(is_error(EchoError::Silent { done: 3 }), "no echo came after 3 bytes");
     let differs = EchoError::Differs {
         done: 3,

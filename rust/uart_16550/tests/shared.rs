@@ -31,7 +31,7 @@ fn memory() -> Memory {
 fn start<S: CriticalSection>(port: &Shared<S, Cable>, cable: &Cable) {
     let uart = Uart16550::new_with_backend(cable.clone());
     let started = port.start(memory().global(), uart, CAPACITY, CAPACITY);
-    started.map_err(|(_uart, cause)| cause).unwrap();
+    started.unwrap();
     let config = Config {
         interrupts: IER::DATA_READY | IER::RECEIVER_LINE_STATUS,
         ..Config::DEFAULT
@@ -124,15 +124,15 @@ fn rings_come_and_go() {
     assert_eq!(port.stop().err(), Some(SharedError::NoRings));
     let uart = Uart16550::new_with_backend(cable.clone());
     let refused = port.start(memory().global(), uart, 0, 1).unwrap_err();
-    assert_eq!(refused.1, StartError::NoRings(RingError::BadCapacity));
+    assert_eq!(refused.cause, StartError::NoRings(RingError::BadCapacity));
     start(&port, &cable);
     let uart = Uart16550::new_with_backend(cable.clone());
-    let (uart, cause) = port.start(memory().global(), uart, 1, 1).unwrap_err();
-    assert_eq!(cause, StartError::Started);
+    let refused = port.start(memory().global(), uart, 1, 1).unwrap_err();
+    assert_eq!(refused.cause, StartError::Started);
     let within = port
-        .with(|_ring| port.start(memory().global(), uart, 1, 1))
+        .with(|_ring| port.start(memory().global(), refused.given, 1, 1))
         .unwrap();
-    assert_eq!(within.unwrap_err().1, StartError::InUse);
+    assert_eq!(within.unwrap_err().cause, StartError::InUse);
     assert_eq!(port.with(|ring| ring.queue(b"abc")), Ok(3));
     assert_eq!(port.stop().unwrap().transmit_len(), 0);
     assert_eq!(port.with(|_ring| ()), Err(SharedError::NoRings));
@@ -197,7 +197,8 @@ fn a_section_that_keeps_nobody_out_makes_refusals_and_no_races() {
 
 /// The handler that is called at an edge, which does not come again.
 fn edge<S: CriticalSection>(port: &Shared<S, Cable>) -> Result<usize, SharedError> {
-    port.handle(MAX_INTERRUPTS).map(|handled| handled.served)
+    port.try_handle(MAX_INTERRUPTS, MAX_UNFINISHED_ROUNDS)
+        .map(|handled| handled.served)
 }
 
 #[test]
@@ -253,6 +254,25 @@ fn a_call_that_unwinds_leaves_the_mark_to_the_next_one() {
     assert!(std::panic::catch_unwind(call).is_err());
     assert_eq!(port.with(|ring| ring.receive_len()), Ok(0));
     assert_eq!(port.with(|ring| ring.receive_len()), Ok(1));
+}
+
+#[test]
+fn a_task_is_woken_although_the_bus_fails_when_an_owed_handler_is_served() {
+    let (port, cable, pair) = (Shared::new(Alone), Cable::default(), Pair::new());
+    start(&port, &cable);
+    let [mut reader, _] = pair.contexts();
+    assert!(port.poll_read(&mut reader, &mut [0]).is_pending());
+    let call = std::panic::AssertUnwindSafe(|| {
+        port.with(|ring| {
+            cable.chip().received.push_back(b'a');
+            assert_eq!(edge(&port), Err(SharedError::InUse));
+            // The byte is there when the call is done, so the task is taken out of its place. Then the handler is served.
+            ring.handle(MAX_INTERRUPTS);
+            cable.chip().panics = true;
+        })
+    });
+    assert!(std::panic::catch_unwind(call).is_err());
+    assert_eq!(pair.woken(), [1, 0]);
 }
 
 /// Whether this becomes true. The limit is for one step, which takes a slow machine milliseconds.

@@ -42,7 +42,7 @@ fn uart(cable: &Cable) -> Uart16550<Cable> {
 /// Starts a port over this cable.
 fn start(line: &Line, port: usize, cable: &Cable) {
     let started = line.start(port, memory().global(), uart(cable), CAPACITY, CAPACITY);
-    started.map_err(|(_uart, cause)| cause).unwrap();
+    started.unwrap();
     let config = Config {
         interrupts: INTERRUPTS,
         ..Config::DEFAULT
@@ -88,7 +88,7 @@ fn ports_come_and_go() {
     }
     let refused = |port, tx| {
         let refused = line.start(port, memory().global(), uart(&cable), tx, 1);
-        refused.unwrap_err().1
+        refused.unwrap_err().cause
     };
     assert_eq!(refused(0, 0), StartError::NoRings(RingError::BadCapacity));
     assert_eq!(refused(3, 1), StartError::NoPlace);

@@ -41,16 +41,12 @@ fn uart() -> Uart16550<Chip> {
 }
 
 fn rings() -> Uart16550Ring<Chip> {
-    Uart16550Ring::new(memory().global(), uart(), 16, 8)
-        .map_err(|(_uart, cause)| cause)
-        .unwrap()
+    Uart16550Ring::new(memory().global(), uart(), 16, 8).unwrap()
 }
 
 fn shared() -> Shared<Section, Chip> {
     let port = Shared::new(Section);
-    port.start(memory().global(), uart(), 16, 8)
-        .map_err(|(_uart, cause)| cause)
-        .unwrap();
+    port.start(memory().global(), uart(), 16, 8).unwrap();
     port
 }
 

@@ -79,7 +79,7 @@ fn a_state_comes_back_from_its_bytes() {
 /// What was stored in each version, by the state that `busy` makes. `travel.rs` has these too.
 const STORED_1: &[u8] = include_bytes!("states/version-1.bin");
 const STORED_2: &[u8] = include_bytes!("states/version-2.bin");
-/// A chip of the library for C with FIFOs of 64, which has what STORED_2 has, and more in its queues.
+/// A chip in C with FIFOs of 64, which has what STORED_2 has, and more in its queues.
 const LARGER: &[u8] = include_bytes!("states/larger.bin");
 
 /// Where the parts are, and the length of each.

@@ -1,8 +1,8 @@
-//! States that go from Rust to C and back: to chips and ports of the library for C, which are restored, saved and written again, and at
+//! States that go from Rust to C and back: to chips and ports of `c/uart_port.c`, which are restored, saved and written again, and at
 //! which a guest looks.
 //!
-//! `integration/library` builds `states/travel.c`, and runs this test with the path of that program in `UART_TRAVEL`. Without it nothing
-//! is tested here.
+//! `integration/c` builds `states/travel.c`, and runs this test with the path of that program in `UART_TRAVEL`. Without it nothing is
+//! tested here.
 #![cfg(feature = "std")]
 
 use std::convert::Infallible;

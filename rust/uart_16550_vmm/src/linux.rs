@@ -392,3 +392,14 @@ impl Epoll {
         }
     }
 }
+
+#[cfg(test)]
+mod tests {
+    use super::*;
+
+    #[test]
+    #[cfg(target_arch = "x86_64")]
+    fn events_lie_one_behind_the_other_as_linux_writes_them() {
+        assert_eq!(size_of::<EpollEvent>(), 12);
+    }
+}

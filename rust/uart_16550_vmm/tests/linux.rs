@@ -2,6 +2,7 @@
 #![cfg(target_os = "linux")]
 
 use std::ffi::c_int;
+use std::fs;
 use std::io::{Read, Write};
 use std::os::fd::{AsFd, AsRawFd};
 use std::os::unix::net::UnixStream;
@@ -22,7 +23,10 @@ const MOST_OF_A_SOCKET: u32 = 1 << 24;
 /// Waits until there is no news. There is at most one event for each change, so a few waits are enough.
 fn settle(epoll: &Epoll) {
     let is_news = |_: &i32| epoll.wait(Duration::ZERO).unwrap();
-    assert!((0..100).take_while(is_news).count() < 100, "news without end");
+    assert!(
+        (0..100).take_while(is_news).count() < 100,
+        "news without end"
+    );
 }
 
 #[test]
@@ -79,6 +83,59 @@ fn a_wait_ends_with_a_change() {
     event.signal().unwrap();
     assert!(epoll.wait(SOON).unwrap());
     assert!(epoll.add(&event).is_err());
+}
+
+/// One wait is told of eight at most, so the ninth is the news of the next one.
+#[test]
+fn nine_that_are_ready_are_told_by_two_waits() {
+    let epoll = Epoll::new().unwrap();
+    let events: Vec<_> = (0..9).map(|_| EventFd::new().unwrap()).collect();
+    events.iter().for_each(|event| epoll.add(event).unwrap());
+    assert!(epoll.wait(SOON).unwrap());
+    assert!(epoll.wait(Duration::ZERO).unwrap());
+    assert!(!epoll.wait(Duration::ZERO).unwrap());
+}
+
+/// Returns the descriptors of this process that are of a kind.
+fn descriptors(kind: &str) -> Vec<c_int> {
+    let all = fs::read_dir("/proc/self/fd").unwrap();
+    all.filter_map(|entry| {
+        let path = entry.ok()?.path();
+        let is_of_kind = fs::read_link(&path).ok()?.as_os_str() == kind;
+        let number = path.file_name()?.to_str()?.parse().ok()?;
+        is_of_kind.then_some(number)
+    })
+    .collect()
+}
+
+/// A program that the monitor starts gets none of them. Those of other tests count too.
+#[test]
+fn a_program_that_is_started_gets_no_descriptor() {
+    const GET_FLAGS: c_int = 1;
+    const CLOSE_ON_EXEC: c_int = 1;
+    let _held = (
+        EventFd::new().unwrap(),
+        Timer::new(SOON).unwrap(),
+        Epoll::new().unwrap(),
+    );
+    for kind in ["eventfd", "timerfd", "eventpoll"] {
+        let found = descriptors(&format!("anon_inode:[{kind}]"));
+        assert!(!found.is_empty(), "{kind}");
+        for descriptor in found {
+            // SAFETY: no memory is passed. One that another test has closed meanwhile has all flags, as -1.
+            let flags = unsafe { fcntl(descriptor, GET_FLAGS) };
+            assert_ne!(flags & CLOSE_ON_EXEC, 0, "{kind}");
+        }
+    }
+}
+
+/// Who sets the clock of the machine moves no timer.
+#[test]
+fn a_timer_goes_by_the_clock_that_nobody_sets() {
+    let timer = Timer::new(SOON).unwrap();
+    let descriptor = timer.as_fd().as_raw_fd();
+    let told = fs::read_to_string(format!("/proc/self/fdinfo/{descriptor}")).unwrap();
+    assert!(told.contains("\nclockid: 1\n"), "{told}");
 }
 
 /// Less than a millisecond is rounded up: who waits so long again and again sleeps.
@@ -155,6 +212,7 @@ fn a_guest_is_interrupted_when_the_timer_runs_out() {
 unsafe extern "C" {
     fn signal(number: c_int, handler: extern "C" fn(c_int)) -> usize;
     fn pthread_kill(thread: RawPthread, number: c_int) -> c_int;
+    fn fcntl(descriptor: c_int, command: c_int, ...) -> c_int;
 }
 
 extern "C" fn do_nothing(_: c_int) {}

@@ -1,6 +1,6 @@
 /*
  * All calls of the chip and of the port at random, and a hash of all that they do: each result, each byte that is written, and each field of
- * the structs afterwards. The same program runs over the library for C that is proved, by its own header, and over the C, and prints the same.
+ * the structs afterwards. The same program runs over the MIR that is proved, by the header of the source, and over the C, and prints the same.
  */
 #if defined(HEADER_OF_LIBRARY)
 #include "uart_16550.h"

@@ -178,6 +178,11 @@ impl<B: Backend> Uart16550<B> {
     /// `fifo_enabled` whether the FIFOs are on. SPR is unchanged. Bytes that were in the
     /// transmitter FIFO may be lost by the reset.
     ///
+    /// A character in the shift register is not waited for before divisor and frame change, so the
+    /// other end may receive it broken. One that is arriving may be received broken here, after
+    /// `init` has returned. On a line that is in use call `init_with` with
+    /// `TransmitterWait::First`, which waits before it writes them.
+    ///
     /// Without a trigger level the FIFOs are off, and bytes are sent one at a time. Some versions
     /// of QEMU were reported to stall in this mode.
     ///

@@ -3,7 +3,7 @@
 //! from the driver's fields and what its reads return.
 #![tactic(auto, using(crate::proofs::Replays::made_replay))]
 
-ghost use Rattle.uart_events.specs.Calls.{IsRunnable};
+ghost use Rattle.uart_call.specs.Calls.{IsRunnable};
 ghost use Rattle.uart_calls.specs.Meaning.{meaning};
 ghost use Rattle.uart_16550.specs.Driver.{Saving};
 ghost use Rattle.uart_16550.specs.Expansion.{SendsStr};

@@ -64,7 +64,7 @@ went-look x c line s w e = record {
   sends = sends-refl c.transmitter;
   receives =
       receives-same x.fifo c.receiver (report c.receiver) _ (marked-in x c s w)
-      (record { queue = refl; marks = refl; missing = refl; arrived = refl })
+      (record { queue = refl; marks = refl; missing = refl; arrived = refl; size = refl })
       (λ h. inl (shown ∙ h)) (λ h. back h);
   reports = reports-look x.fifo c line s.receiver.legal e;
   modem_lines = changed-refl c.modem;
@@ -291,7 +291,7 @@ went-write_level x c value off on level s w =
       sends = sends-refl c.transmitter;
       receives =
           receives-still x.fifo c.receiver (record c.receiver { trigger = trigger_level value }) (marked-in x c s w)
-          (record { queue = refl; marks = refl; missing = refl; arrived = refl }) refl;
+          (record { queue = refl; marks = refl; missing = refl; arrived = refl; size = refl }) refl;
       reports = reports-same x.fifo c.receiver (record c.receiver { trigger = trigger_level value }) refl refl refl;
       modem_lines = changed-refl c.modem;
     })

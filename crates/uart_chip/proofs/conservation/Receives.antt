@@ -16,6 +16,7 @@ use Rattle.uart_chip.specs.Conserved.{is_dropped, origin_stands, stands}
 use Rattle.uart_chip.proofs.soundness.Marks.{mark_at-set_mark_not}
 use Rattle.uart_chip.proofs.Bits.{has_or, has_none}
 use Rattle.uart_chip.proofs.conservation.Moves.{IsFinal, Moved, moved_trans, filter-waits}
+use Rattle.uart_chip.proofs.conservation.Stepped.{Stepped, stepped-trans, stepped-same}
 
 -- ---- drops
 
@@ -81,6 +82,7 @@ pub record Receives (fifo : Bool) (r s : ReceiverState) (entering takes : List C
   pub moved : Moved fifo r s entering takes
   pub is_shown : Owed r s → Shows seen s
   pub was_owed : Shows seen s → Owed r s
+  pub stepped : Stepped fifo r s entering takes seen
 
 pub shows_first : (a b : ℕ) (r : ReceiverState) → has_any a LSR.OVERRUN_ERROR.0 ≡ true → Shows (bit_or a b) r
 shows_first a b r e = inl (has_or 1 a b ∙ or_left (has_any a LSR.OVERRUN_ERROR.0) (has_any b LSR.OVERRUN_ERROR.0) e)
@@ -98,6 +100,7 @@ receives-trans fifo r s t f g xs ys a b p q = record {
   moved = moved_trans fifo r s t f g xs ys p.moved q.moved;
   is_shown = λ o. shows_now o;
   was_owed = λ h. owed_then h;
+  stepped = stepped-trans fifo r s t f g xs ys a b p.stepped q.stepped;
 }
   where
     on_shown : Shows a s → Shows (bit_or a b) t
@@ -130,12 +133,13 @@ receives-trans fifo r s t f g xs ys a b p q = record {
 
 -- ---- nothing comes in or is taken
 
--- the receiver's characters are the same
+-- the receiver's characters are the same, and as many can wait
 pub record SameCharacters (r s : ReceiverState) : Type 0 where
   pub queue : s.queue ≡ r.queue
   pub marks : s.marks ≡ r.marks
   pub missing : s.is_unscheduled_lost ≡ r.is_unscheduled_lost
   pub arrived : s.arrived ≡ r.arrived
+  pub size : s.size ≡ r.size
 
 moved_same : (fifo : Bool) (r s : ReceiverState) → IsMarked fifo r → SameCharacters r s → Moved fifo r s [] []
 moved_same fifo r s w k = record {
@@ -163,6 +167,7 @@ receives-same fifo r s seen w k f g = record {
   moved = moved_same fifo r s w k;
   is_shown = λ o. to o;
   was_owed = λ h. inl (g h);
+  stepped = stepped-same fifo r s seen k.queue k.size f g;
 }
   where
     to : Owed r s → Shows seen s
@@ -179,4 +184,4 @@ receives-still fifo r s w k e = receives-same fifo r s 0 w k (λ h. inr (e ∙ h
     back (inr h) = sym e ∙ h
 
 pub receives-refl : (fifo : Bool) (r : ReceiverState) → IsMarked fifo r → Receives fifo r r [] [] 0
-receives-refl fifo r w = receives-still fifo r r w (record { queue = refl; marks = refl; missing = refl; arrived = refl }) refl
+receives-refl fifo r w = receives-still fifo r r w (record { queue = refl; marks = refl; missing = refl; arrived = refl; size = refl }) refl

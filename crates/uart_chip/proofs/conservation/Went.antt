@@ -167,7 +167,7 @@ went-tick x c l s w = rw (tick-still c (loopback-in x c w ∙ l)) (record {
   sends = sends-tick (is_held_off c) c.transmitter;
   receives =
       receives-still x.fifo c.receiver (grow_timeout c.receiver) (marked-in x c s w)
-      (record { queue = refl; marks = refl; missing = refl; arrived = refl }) refl;
+      (record { queue = refl; marks = refl; missing = refl; arrived = refl; size = refl }) refl;
   reports = reports-same x.fifo c.receiver (grow_timeout c.receiver) refl refl refl;
   modem_lines = changed-refl c.modem;
 })

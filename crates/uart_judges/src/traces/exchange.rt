@@ -1,5 +1,5 @@
 //! A call of a trace.
-ghost use Rattle.uart_events.specs.Calls.{IsRunnable};
+ghost use Rattle.uart_call.specs.Calls.{IsRunnable};
 ghost use Rattle.uart_judges.specs.Runnable.{runnable_is_one};
 
 use uart_calls::Call;

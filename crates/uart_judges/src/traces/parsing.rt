@@ -1,7 +1,7 @@
 //! The meaning of a whole trace.
 ghost use Rattle.std.specs.Prelude.{◌≡◌, ◌+◌, ◌<◌, ◌≤◌, List, length};
 ghost use Rattle.std.specs.Prelude.{IfOk, MatchResult, Some, None};
-ghost use Rattle.uart_events.specs.Calls.{IsRunnable};
+ghost use Rattle.uart_call.specs.Calls.{IsRunnable};
 ghost use Rattle.uart_language.specs.Text.{lines_of};
 ghost use Rattle.uart_judges.specs.TraceLines.{CanRun, saying_of};
 ghost use Rattle.uart_judges.specs.Reading.{IsTrace, ReadsExchange};

@@ -1,12 +1,14 @@
 //! Serving interrupts.
 ghost use Rattle.std.specs.Prelude.{◌≤◌};
 ghost use Rattle.uart_ring.specs.Ring.{RingDid};
-ghost use Rattle.uart_ring.specs.Service.{ServesInterrupt, ServesUpTo, Services};
-ghost use Rattle.uart_ring.specs.Handle.{Retriggers, Handles};
+ghost use Rattle.uart_ring.specs.Service.{SendsOnIf, ServesData, ServesInterrupt, ServesLine};
+ghost use Rattle.uart_ring.specs.Service.{ServesUpTo, Services};
+ghost use Rattle.uart_ring.specs.Handle.{Retriggers, RetriggersUnlessIdle, Handles};
 
 use super::Uart16550Ring;
+use bitflags::Flags;
 use uart_16550::backend::Backend;
-use uart_spec::registers::InterruptType;
+use uart_spec::registers::{InterruptType, LSR};
 
 /// The most interrupts that one call of `service` serves.
 // A broken chip can show interrupts without end, and no call may wait.
@@ -33,28 +35,78 @@ pub struct Handled {
     pub end: HandleEnd,
 }
 
+// What serving interrupts did.
+#[derive(Clone, Copy)]
+struct Served {
+    handled: Handled,
+    // A line status has shown room, and nothing was sent behind it.
+    has_room: bool,
+}
+
 impl<B: Backend> Uart16550Ring<B> {
-    // Serves one interrupt.
-    fn serve(&mut self, interrupt: InterruptType)
-        ensures { RingDid B.step (ServesInterrupt interrupt) self.old self.new }
+    // Notes the errors of a line status. Returns whether this sends and LSR shows room.
+    fn serve_line(&mut self, sends: bool) -> bool
+        ensures { RingDid B.step (ServesLine sends result) self.old self.new }
+    {
+        let status = self.note_line();
+        sends && status.contains(LSR::THR_EMPTY)
+    }
+
+    // Receives bytes. Then sends, if a line status has shown room.
+    //
+    // why: where THR_EMPTY and received data are due together, some chips show a line status, and
+    // that read of ISR acknowledges the THR_EMPTY. LSR shows the room all the same. And a THR_EMPTY
+    // that got lost is made up for here.
+    // why: behind the data, and not at the line status: a burst ahead of the first byte would take
+    // time that the receiver may not have.
+    fn serve_data(&mut self, has_room: bool)
+        ensures { RingDid B.step (ServesData has_room) self.old self.new }
+    {
+        self.fill_receive_ring();
+        self.send_on_if(has_room);
+    }
+
+    // Sends, if a line status has shown room.
+    fn send_on_if(&mut self, has_room: bool)
+        ensures { RingDid B.step (SendsOnIf has_room) self.old self.new }
+    {
+        if has_room {
+            self.send_on();
+        }
+    }
+
+    // Serves one interrupt. Takes and returns whether a line status has shown room, behind which
+    // nothing was sent. Only a handler sends there.
+    fn serve(&mut self, interrupt: InterruptType, sends: bool, has_room: bool) -> bool
+        ensures { RingDid B.step (ServesInterrupt sends has_room result interrupt)
+            self.old self.new }
     {
         match interrupt {
-            InterruptType::ReceiverLineStatus => self.note_line(),
+            InterruptType::ReceiverLineStatus => self.serve_line(sends),
             InterruptType::ReceivedDataReady | InterruptType::ReceptionTimeout => {
-                self.fill_receive_ring()
+                self.serve_data(has_room);
+                false
             }
-            InterruptType::TransmitterHoldingRegisterEmpty => self.pump(),
-            InterruptType::ModemStatus => self.note_modem(),
+            InterruptType::TransmitterHoldingRegisterEmpty => {
+                self.pump();
+                false
+            }
+            InterruptType::ModemStatus => {
+                self.note_modem();
+                has_room
+            }
             InterruptType::DmaReceptionEndOfTransfer
-            | InterruptType::DmaTransmissionEndOfTransfer => {}
+            | InterruptType::DmaTransmissionEndOfTransfer => has_room,
         }
     }
 
     // Serves the interrupts that ISR identifies, at most `limit`. Returns how many, and why it
     // serves no more.
-    fn serve_up_to(&mut self, limit: usize) -> Handled
-        ensures { RingDid B.step (ServesUpTo limit result) self.old self.new }
+    fn serve_up_to(&mut self, limit: usize, sends: bool) -> Served
+        ensures { RingDid B.step (ServesUpTo sends limit result.handled result.has_room)
+            self.old self.new }
     {
+        let mut has_room = false;
         for served in 0..limit {
             let isr = self.uart.isr();
             let Some(interrupt) = isr.interrupt_type() else {
@@ -63,16 +115,18 @@ impl<B: Backend> Uart16550Ring<B> {
                 } else {
                     HandleEnd::Idle
                 };
-                return Handled { served, end };
+                let handled = Handled { served, end };
+                return Served { handled, has_room };
             };
-            self.serve(interrupt);
+            has_room = self.serve(interrupt, sends, has_room);
         }
         // ISR is not read once more to see whether another is pending: a read that shows THR_EMPTY
         // acknowledges it, and an interrupt that is acknowledged and not served never comes again.
-        Handled {
+        let handled = Handled {
             served: limit,
             end: HandleEnd::Limit,
-        }
+        };
+        Served { handled, has_room }
     }
 
     /// Serves the interrupts that ISR identifies, until it identifies none or [`MAX_INTERRUPTS`]
@@ -113,7 +167,7 @@ impl<B: Backend> Uart16550Ring<B> {
         // The number does not tell whether an interrupt without a name is left, and if the line
         // stays high no edge comes. So this call is for programs that poll, and `handle` for
         // handlers.
-        self.serve_up_to(MAX_INTERRUPTS).served
+        self.serve_up_to(MAX_INTERRUPTS, false).handled.served
     }
 
     /// Makes the chip's interrupt line fall, and rise again if an interrupt is enabled and pending:
@@ -145,6 +199,23 @@ impl<B: Backend> Uart16550Ring<B> {
         self.uart.retrigger_interrupts();
     }
 
+    // Triggers what is left again, and sends before that, if a line status has shown room.
+    fn retrigger_unless_idle(&mut self, has_room: bool, end: HandleEnd)
+        ensures { RingDid B.step (RetriggersUnlessIdle has_room end) self.old self.new }
+    {
+        match end {
+            // ISR has shown that none is pending, so the line has been low.
+            HandleEnd::Idle => {}
+            // The line may still be high, and a controller that detects edges would never call the
+            // handler again. At such a controller a broken chip has the handler called without end,
+            // so a handler counts these rounds, and then disables the chip's interrupts.
+            HandleEnd::Unknown | HandleEnd::Limit => {
+                self.send_on_if(has_room);
+                self.retrigger();
+            }
+        }
+    }
+
     /// Handles the chip's interrupt: serves what is pending, as `service` does, but at most `limit`
     /// interrupts. Returns how many it served, and why it ended.
     ///
@@ -155,6 +226,10 @@ impl<B: Backend> Uart16550Ring<B> {
     ///   makes the line rise.
     /// - Otherwise an interrupt may be left, and `handle` makes the line fall and rise again, as
     ///   `retrigger` does. So the controller calls the handler again.
+    ///
+    /// At a line status it notes whether LSR shows room. If so, it sends bytes that wait behind the
+    /// next received data, though ISR shows no `THR_EMPTY`: where both are due, some chips show a
+    /// line status.
     ///
     /// A broken chip may show interrupts for ever, and the controller then calls the handler for
     /// ever. So count the calls in a row that do not end with `Idle`, and after a number of them
@@ -171,15 +246,8 @@ impl<B: Backend> Uart16550Ring<B> {
     pub fn handle(&mut self, limit: usize) -> Handled
         ensures { RingDid B.step (Handles limit result) self.old self.new }
     {
-        let handled = self.serve_up_to(limit);
-        match handled.end {
-            // ISR has shown that none is pending, so the line has been low.
-            HandleEnd::Idle => {}
-            // The line may still be high, and a controller that detects edges would never call the
-            // handler again. At such a controller a broken chip has the handler called without end,
-            // so a handler counts these rounds, and then disables the chip's interrupts.
-            HandleEnd::Unknown | HandleEnd::Limit => self.retrigger(),
-        }
-        handled
+        let round = self.serve_up_to(limit, true);
+        self.retrigger_unless_idle(round.has_room, round.handled.end);
+        round.handled
     }
 }

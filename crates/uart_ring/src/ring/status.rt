@@ -1,8 +1,8 @@
 //! Line errors and changes of the modem lines: noted when their interrupts are served, and taken by
 //! the caller. And all registers at once.
 ghost use Rattle.uart_ring.specs.Ring.{RingDid};
-ghost use Rattle.uart_ring.specs.Status.{NotesLine, NotesModem, TakesLine, TakesModem};
-ghost use Rattle.uart_ring.specs.Status.{DumpsRegisters};
+ghost use Rattle.uart_ring.specs.Status.{NotesLine, NotesModem};
+ghost use Rattle.uart_ring.specs.Status.{TakesLine, TakesModem, DumpsRegisters};
 
 use super::Uart16550Ring;
 use bitflags::Flags;
@@ -11,12 +11,14 @@ use uart_spec::ConfigRegisterDump;
 use uart_spec::registers::{LSR, MSR};
 
 impl<B: Backend> Uart16550Ring<B> {
-    // Notes the errors that LSR shows, and those that the driver has saved.
-    pub(super) fn note_line(&mut self)
-        ensures { RingDid B.step NotesLine self.old self.new }
+    // Notes the errors that LSR shows, and those that the driver has saved. Returns both with the
+    // other bits of LSR.
+    pub(super) fn note_line(&mut self) -> LSR
+        ensures { RingDid B.step (NotesLine result.0) self.old self.new }
     {
         let status = self.uart.lsr();
         self.line.insert(status.intersection(LSR::LINE_ERRORS));
+        status
     }
 
     // Notes the changes that MSR shows, and those that the driver has saved.

@@ -1,11 +1,11 @@
 //! From the transmit ring to the chip.
 ghost use Rattle.std.specs.Prelude.{◌≡◌, ◌≤◌, ◌==◌, ◌||◌, not, length, min, drop};
-ghost use Rattle.uart_16550.specs.Driver.{Made};
+ghost use Rattle.uart_16550.specs.Driver.{Did, Made};
 ghost use Rattle.uart_16550.specs.Transmit.{Sends};
 ghost use Rattle.uart_ring.specs.Queue.{queue};
 ghost use Rattle.uart_ring.specs.Ring.{RingDid, driver_of, falls, free, ring_fields, sendable};
 ghost use Rattle.uart_ring.specs.Ring.{without_sent_bytes};
-ghost use Rattle.uart_ring.specs.Transmit.{Pumps, Queues, ResumesTransmit};
+ghost use Rattle.uart_ring.specs.Transmit.{ArmsIfLeft, Pumps, SendsOn, Queues, ResumesTransmit};
 ghost use Rattle.uart_ring.specs.Transmit.{Holds, Releases, QueuesUrgent, ClearsTransmit};
 ghost use Rattle.uart_ring.specs.Transmit.{SetsLowMark, TakesLow};
 
@@ -75,24 +75,47 @@ impl<B: Backend> Uart16550Ring<B> {
         }
     }
 
+    // Enables THR_EMPTY if bytes are left that may be sent, else disables it.
+    //
+    // IER is read and written each time, even if it need not change: only the chip knows what IER
+    // holds, and a caller may have changed it.
+    fn arm_if_left(&mut self)
+        ensures made { Did B.step (ArmsIfLeft (sendable (ring_fields self.old)))
+            (driver_of self.old) (driver_of self.new) }
+        ensures kept { self.new ≡ record self.old { uart = driver_of self.new } }
+    {
+        if self.has_sendable() {
+            self.uart.enable_interrupts(IER::THR_EMPTY);
+        } else {
+            self.uart.disable_interrupts(IER::THR_EMPTY);
+        }
+    }
+
     // Sends bytes that may be sent if the chip has room. Then enables THR_EMPTY if such bytes are
     // left, else disables it.
     //
     // The bytes are sent first, because not every chip interrupts when THR_EMPTY is enabled on an
     // empty transmitter. If bytes are left, the chip was found full or has just been filled, so it
     // still has to report that it is empty.
-    //
-    // IER is read and written each time, even if it need not change: only the chip knows what IER
-    // holds, and a caller may have changed it.
     pub(super) fn pump(&mut self)
         ensures { RingDid B.step Pumps self.old self.new }
     {
         let sent = self.send_sendable();
         self.drop_sent(sent);
-        if self.has_sendable() {
-            self.uart.enable_interrupts(IER::THR_EMPTY);
-        } else {
-            self.uart.disable_interrupts(IER::THR_EMPTY);
+        self.arm_if_left();
+    }
+
+    // Sends as a pump does, but leaves IER as it is if nothing is sent.
+    //
+    // why: if the chip has no room, or CTS is clear, nothing has changed for the bytes that wait;
+    // and to enable THR_EMPTY on an empty transmitter would raise one more interrupt.
+    pub(super) fn send_on(&mut self)
+        ensures { RingDid B.step SendsOn self.old self.new }
+    {
+        let burst = self.send_sendable();
+        if burst > 0 {
+            self.drop_sent(burst);
+            self.arm_if_left();
         }
     }
 

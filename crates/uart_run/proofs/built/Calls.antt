@@ -1,7 +1,7 @@
 -- What each call of a run does is built so.
 use Rattle.uart_run.proofs.Names.{[], ◌∷◌, refl, Read, Call, meaning, outcome_of, doing_of, SendsShortText}
 use Rattle.uart_spec.specs.declared.registers.offsets.TheConstants as offsets
-use Rattle.uart_events.specs.declared.call.Call.TheVariants as call
+use Rattle.uart_call.specs.declared.call.Call.TheVariants as call
 use Rattle.uart_run.proofs.built.Words.{Kinds, Does, only, asks, among, wider, saves, sets, by_fields, among_does, wider_does}
 use Rattle.uart_run.proofs.built.Receive.{ready_to_receive, try_receive, receives, receives_exact, receives_with_errors, reads_some}
 use Rattle.uart_run.proofs.{built.Receive.flushes, built.Receive.answers_read, built.Init.checks_presence, built.Loopback.tests_loopback}

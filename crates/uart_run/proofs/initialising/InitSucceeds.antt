@@ -14,7 +14,7 @@ use Rattle.uart_spec.specs.declared.errors.InitError.TheVariants.{Stalled}
 use Rattle.uart_spec.specs.declared.registers.offsets.TheConstants as offsets
 use Rattle.uart_spec.specs.declared.registers.line_status.TheConstants.LSR
 use Rattle.uart_spec.specs.declared.registers.line_control.TheConstants.LCR
-use Rattle.uart_events.specs.declared.call.Call.TheVariants as call
+use Rattle.uart_call.specs.declared.call.Call.TheVariants as call
 use Rattle.uart_run.proofs.{Latches.Kept, Latches.kept_access, Pieces.then_parts, Pieces.next_stages, progress.Nearing.RunsWith}
 use Rattle.uart_run.proofs.{progress.Nearing.free_runs, progress.Nearing.free-path, progress.Nearing.free-latch, SilentLists.is_no_data}
 use Rattle.uart_run.proofs.{SilentLists.silent, built.Words.Kinds, built.Words.Built, built.Words.all_pass, built.Words.leaves_limit}

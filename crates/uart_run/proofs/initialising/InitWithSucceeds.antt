@@ -11,7 +11,7 @@ use Rattle.uart_run.proofs.Names.{cleared_off, has_and, flow_bit, sound_path}
 use Rattle.uart_spec.specs.declared.errors.FrameError.TheVariants as frame_error
 use Rattle.uart_spec.specs.declared.errors.InitError.TheVariants.{Stalled}
 use Rattle.uart_spec.specs.declared.registers.offsets.TheConstants as offsets
-use Rattle.uart_events.specs.declared.call.Call.TheVariants as call
+use Rattle.uart_call.specs.declared.call.Call.TheVariants as call
 use Rattle.uart_run.proofs.{Pieces.then_parts, Pieces.next_stages, progress.Nearing.Runs, progress.Nearing.RunsFree}
 use Rattle.uart_run.proofs.{progress.Nearing.free_runs, built.Words.leaves_limit, progress.WaitEnds.no_stall-empty, SizeKept.left_ever}
 use Rattle.uart_run.proofs.{progress.Succeeds.few_left, progress.Succeeds.runs, progress.Succeeds.settings_at, Latches.Kept}

@@ -9,7 +9,7 @@ use Rattle.uart_spec.specs.declared.errors.InitError.TheVariants.{Stalled}
 use Rattle.uart_spec.specs.declared.registers.line_control.TheConstants.LCR
 use Rattle.uart_spec.specs.declared.registers.offsets.TheConstants as offsets
 use Rattle.uart_spec.specs.declared.registers.line_status.TheConstants.LSR
-use Rattle.uart_events.specs.declared.call.Call.TheVariants as call
+use Rattle.uart_call.specs.declared.call.Call.TheVariants as call
 use Rattle.uart_run.proofs.{Latches.Kept, Latches.kept_in, Latches.kept_after, Latches.kept_list, SizeKept.fits_kept, Wired.wired_path}
 use Rattle.uart_run.proofs.{Pieces.then_parts, Pieces.next_stages, initialising.Presence.never_absent, KeptLists.kept_still}
 use Rattle.uart_run.proofs.{built.Receive.waits_for, EmptyTransmitter.IsEmpty, EmptyTransmitter.empty_shown}

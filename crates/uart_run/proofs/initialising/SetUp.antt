@@ -13,7 +13,7 @@ use Rattle.uart_spec.specs.declared.registers.line_status.TheConstants.LSR
 use Rattle.uart_spec.specs.declared.registers.offsets.TheConstants as offsets
 use Rattle.uart_spec.specs.declared.setup.TransmitterWait.{TransmitterWait}
 use Rattle.uart_spec.specs.declared.setup.TransmitterWait.TheVariants.{First, Last, Never as NoWait}
-use Rattle.uart_events.specs.declared.call.Call.TheVariants as call
+use Rattle.uart_call.specs.declared.call.Call.TheVariants as call
 use Rattle.uart_run.proofs.{Wired.wired_path, Wired.wired_control, SizeKept.fits_kept, Pieces.then_parts, Pieces.next_stages}
 use Rattle.uart_run.proofs.{SilentLists.silent, EmptyTransmitter.IsEmpty, EmptyTransmitter.wait_empties, EmptyTransmitter.empty_path}
 use Rattle.uart_run.proofs.{EmptyTransmitter.empty_lined, initialising.Stored.init_with_stores, initialising.Presence.never_absent}

@@ -11,7 +11,7 @@ use Rattle.uart_run.proofs.Names.{has_any}
 use Rattle.uart_spec.specs.declared.errors.LoopbackError.TheVariants.{Stalled}
 use Rattle.uart_spec.specs.declared.registers.offsets.TheConstants as offsets
 use Rattle.uart_spec.specs.declared.registers.line_status.TheConstants.LSR
-use Rattle.uart_events.specs.declared.call.Call.TheVariants as call
+use Rattle.uart_call.specs.declared.call.Call.TheVariants as call
 use Rattle.uart_run.proofs.CallBlocks.{Makes, makes_then, makes_reads, awaited_blocks, round_blocks, sends_all_blocks, try_sends_blocks}
 use Rattle.uart_run.proofs.{CallKeeps.one_fits, CallKeeps.one_sent, Pieces.then_parts, Pieces.next_stages, progress.Nearing.RunsFree}
 use Rattle.uart_run.proofs.{progress.Nearing.free_runs, progress.Nearing.free-path, progress.WaitEnds.no_stall-empty}

@@ -12,7 +12,7 @@ use Rattle.uart_spec.specs.declared.registers.offsets.TheConstants as offsets
 use Rattle.uart_spec.specs.declared.registers.line_status.TheConstants.LSR
 use Rattle.uart_spec.specs.declared.registers.modem_control.TheConstants.MCR
 use Rattle.uart_spec.specs.declared.registers.line_control.TheConstants.LCR
-use Rattle.uart_events.specs.declared.call.Call.TheVariants as call
+use Rattle.uart_call.specs.declared.call.Call.TheVariants as call
 use Rattle.uart_run.proofs.EmptyTransmitter.{IsSent, sent_shown, shown_sent, wait_empties, sent_path}
 use Rattle.uart_run.proofs.{SilentLists.does_silently, built.Loopback.enters_at, built.Loopback.leaves, CallKeeps.quiet_blocks}
 use Rattle.uart_run.proofs.{Latches.Kept, Latches.kept_cut, Pieces.then_parts, Pieces.next_stages, loopback.TestedReady.entered}

@@ -8,7 +8,7 @@ use Rattle.uart_run.proofs.Names.{IsSound, kept_bit, sound_path, path_as}
 use Rattle.uart_spec.specs.declared.registers.offsets.TheConstants as offsets
 use Rattle.uart_spec.specs.declared.registers.line_status.TheConstants.LSR
 use Rattle.uart_spec.specs.declared.registers.modem_control.TheConstants.MCR
-use Rattle.uart_events.specs.declared.call.Call.TheVariants as call
+use Rattle.uart_call.specs.declared.call.Call.TheVariants as call
 use Rattle.uart_run.proofs.{SizeKept.fits_kept, Pieces.then_parts, Pieces.next_stages, KeptLists.kept_still, built.Loopback.begins_test}
 use Rattle.uart_run.proofs.{built.Loopback.exchanges, initialising.FifoSteps.sets_fifo, initialising.Initialised.ready_by}
 use Rattle.uart_run.proofs.Latches.{Kept, kept_in, keep_write, kept_after, kept_list, kept_access, LeftBy}

@@ -245,7 +245,7 @@ went-asked x c value on level keeps s w =
       sends = sends-refl c.transmitter;
       receives =
           receives-still x.fifo c.receiver (record c.receiver { trigger = trigger_level value }) (marked-in x c s w)
-          (record { queue = refl; marks = refl; missing = refl; arrived = refl }) refl;
+          (record { queue = refl; marks = refl; missing = refl; arrived = refl; size = refl }) refl;
       reports = reports-same x.fifo c.receiver (record c.receiver { trigger = trigger_level value }) refl refl refl;
       modem_lines = changed-refl c.modem;
     })

@@ -1,6 +1,6 @@
 //! The proved chip as C (`c/uart_port.c`), which has FIFOs of each size, and can be copied. Beside `census.rs` the file here with `unsafe`.
 
-use std::ffi::c_void;
+use std::ffi::{c_int, c_void};
 
 /// `UART_STATE_MOST` of uart_port.h.
 const STATE_MOST: usize = 528;
@@ -10,6 +10,9 @@ const CHARACTER_TICKS: u16 = 2;
 unsafe extern "C" {
     fn chip_in_c_size() -> usize;
     fn chip_in_c_is_idle(chip: *const c_void) -> u8;
+    fn chip_in_c_ending(chip: *const c_void) -> c_int;
+    fn chip_in_c_end_sending(chip: *mut c_void);
+    fn chip_in_c_receive(chip: *mut c_void, byte: u8);
     fn chip_in_c_forget(chip: *mut c_void);
     fn uart_chip_new_sized(chip: *mut c_void, model: u8, fifo_size: u8, char_ticks: u16, wire_capacity: u8, cuts: u8) -> u32;
     fn uart_chip_read(chip: *mut c_void, offset: u8) -> u8;
@@ -75,6 +78,23 @@ impl ChipInC {
     /// Half of the time of a character passes.
     pub fn tick(&mut self) {
         unsafe { uart_chip_ticks(self.pointer(), 1) };
+        self.forget();
+    }
+
+    /// The character that leaves the shift register with the next tick, in which it is received.
+    pub fn ending(&self) -> Option<u8> {
+        u8::try_from(unsafe { chip_in_c_ending(self.room.as_ptr().cast()) }).ok()
+    }
+
+    /// That tick for the transmitter alone.
+    pub fn end_sending(&mut self) {
+        unsafe { chip_in_c_end_sending(self.pointer()) };
+        self.forget();
+    }
+
+    /// That tick for the receiver alone, of this character.
+    pub fn receive(&mut self, byte: u8) {
+        unsafe { chip_in_c_receive(self.pointer(), byte) };
         self.forget();
     }
 

@@ -266,6 +266,12 @@ fn modem() -> Vec<Deviation> {
         Deviation::new("looped-lines", "CTS is always set").reads(|_, register, value| if register == Msr { value | 0x10 } else { value }),
         Deviation::new("modem-changes", "MSR shows no change")
             .reads(|_, register, value| if register == Msr { value & 0xf0 } else { value }),
+        Deviation::new("changes-stay", "a write of MCR forgets the changes before it").writes(|chip, register, value| {
+            if register == Mcr {
+                chip.chip.read(6);
+            }
+            Some(value)
+        }),
         Deviation::new("msr-clears", "a change of CTS is shown twice").reads(|chip, register, value| {
             if register != Msr {
                 return value;
@@ -344,7 +350,18 @@ fn sizes() -> Vec<Deviation> {
                 value
             })
             .writes(|chip, register, value| (register != Data || chip.count() <= 12).then_some(value))
-            .also(&["send-fifo"]),
+            .also(&["burst-behind", "send-fifo"]),
+        Deviation::new("burst-behind", "behind a character that goes out the 16th of a burst is lost")
+            .reads(|chip, register, value| {
+                if register == Lsr {
+                    (chip.kept, chip.is_marked) = (0, value & THR_EMPTY != 0 && value & TRANSMITTER_EMPTY == 0);
+                }
+                value
+            })
+            .writes(|chip, register, value| {
+                let is_lost = register == Data && chip.has_fifo() && chip.count() > 15 && chip.is_marked;
+                (!is_lost).then_some(value)
+            }),
         Deviation::new("send-fifo", "the transmit FIFO holds 16 with the character that goes out")
             .reads(|chip, register, value| {
                 chip.kept = if register == Lsr { 0 } else { chip.kept };
@@ -399,6 +416,17 @@ fn levels() -> Vec<Deviation> {
             .also(&["priorities"]),
         Deviation::new("timeout", "no timeout interrupts")
             .reads(|_, register, value| if register == Isr && value & CODE == 0x0c { with_code(value, NONE) } else { value }),
+        Deviation::new("timeout-when", "a timeout comes one character behind the last")
+            .writes(|chip, register, value| {
+                chip.since = if register == Data { chip.time } else { chip.since };
+                Some(value)
+            })
+            .reads(|chip, register, value| {
+                chip.since = if register == Data { chip.time } else { chip.since };
+                let is_over = chip.time - chip.since >= 2 * CHARACTER_NS && chip.written.ier == 0x01 && chip.written.fcr == 0xc7;
+                let is_idle = register == Isr && value & CODE == NONE;
+                if is_idle && is_over && chip.chip.read(5) & DATA_READY != 0 { with_code(value, 0x0c) } else { value }
+            }),
         Deviation::new("timeout-ends", "a timeout is shown once more").reads(|chip, register, value| {
             if register != Isr {
                 return value;

@@ -4,8 +4,11 @@
 //! It keeps the set of all states in which the chip may be. A read leaves those that answer it. If none does, that is a difference, and the
 //! judge goes on where the chip is known again: at a read of MSR behind a write of FCR, where `begin` of census.c has emptied the chip.
 //!
+//! A character ends at two moments: it is received, and the transmitter is done with it. A receiver has it within its stop bit, and a
+//! transmitter may count its stop bit as it likes. So the two may be up to a bit apart, in either order.
+//!
 //! Recorded times bound the ticks from above. A look that shows the transmitter at work says how long a character takes at least, so no
-//! more characters can be out than that allows.
+//! more characters can be out than that allows. One that shows it to be done says how long a bit takes at most.
 
 use std::collections::BTreeMap;
 use std::collections::btree_map::Entry;
@@ -17,9 +20,6 @@ use crate::chip_in_c::{ChipInC, Key, Kind};
 const MOST_STATES: usize = 2000;
 /// So many accesses in turn say how long one takes. A time may be a microsecond too small.
 const RUN: usize = 16;
-/// Of the time from a write to the end of its character so large a part, an eighth, can have passed before it began: a chip begins it with
-/// its next bit.
-const WAIT: u64 = 8;
 const NAMES: [&str; 8] = ["DATA", "IER", "ISR", "LCR", "MCR", "LSR", "MSR", "SCR"];
 const MCR: u8 = 4;
 const LSR: u8 = 5;
@@ -102,30 +102,55 @@ impl Recording {
         times.min().unwrap_or(0)
     }
 
-    /// How long a character takes at least, at each divisor that was set, where looks show it: it was written to an empty transmitter, and
-    /// they came before another write.
-    fn least_times(&self) -> BTreeMap<u16, u64> {
+    /// How long characters and bits take, where looks show it: a character was written to an empty transmitter, and they came before
+    /// another write.
+    fn times(&self) -> Times {
         let least_access = self.least_access();
-        let mut least: BTreeMap<u16, u64> = BTreeMap::new();
+        let mut times = Times::default();
         let (mut latch, mut lcr, mut is_idle, mut written) = ([0, 0], 0, false, None);
-        for access in &self.accesses {
+        let ends = self.accesses.iter().skip(1).map(|next| next.time).chain([None]);
+        for (access, end) in self.accesses.iter().zip(ends) {
             match (access.is_write, access.offset) {
                 (true, 0 | 1) if lcr & DLAB != 0 => latch[usize::from(access.offset)] = access.value,
                 (true, 0) => (written, is_idle) = (access.time.filter(|_| is_idle), false),
                 (true, 3) => lcr = access.value,
-                (false, LSR) if access.value & TRANSMITTER_EMPTY != 0 => (written, is_idle) = (None, true),
                 (false, LSR) => {
-                    if let (Some(from), Some(to)) = (written, access.time) {
-                        let known = least.entry(u16::from_le_bytes(latch)).or_default();
+                    let is_done = access.value & TRANSMITTER_EMPTY != 0;
+                    let (divisor, length) = (u16::from_le_bytes(latch), half_bits(lcr));
+                    if let (Some(from), Some(to), false) = (written, access.time, is_done) {
                         let passed = to.saturating_sub(from) + u64::from(access.more) * least_access;
-                        *known = (*known).max(passed - passed / WAIT);
+                        let known = times.least.entry((divisor, length)).or_default();
+                        // It can begin up to a bit late, and be received a bit early.
+                        *known = (*known).max(passed * (length - 2) / (length + 2));
                     }
+                    // What was shown was so when the next access began, at the latest.
+                    if let (Some(from), Some(to), true) = (written, end, is_done) {
+                        let known = times.most.entry(divisor).or_insert(u64::MAX);
+                        *known = (*known).min(2 * to.saturating_sub(from) / (length - 2));
+                    }
+                    (written, is_idle) = (written.filter(|_| !is_done), is_idle || is_done);
                 }
                 _ => {}
             }
         }
-        least
+        times
     }
+}
+
+/// How many halves of a bit a character has in the frame of LCR.
+fn half_bits(lcr: u8) -> u64 {
+    let (is_five, has_parity, has_more_stop) = (lcr & 3 == 0, lcr & 8 != 0, lcr & 4 != 0);
+    let stop = 2 + u64::from(has_more_stop) * if is_five { 1 } else { 2 };
+    2 * (6 + u64::from(lcr & 3) + u64::from(has_parity)) + stop
+}
+
+/// What is known of times, in nanoseconds.
+#[derive(Default)]
+struct Times {
+    /// How long a character takes at least until it is received, at a divisor and with so many halves of a bit.
+    least: BTreeMap<(u16, u64), u64>,
+    /// How long a bit takes at most, at a divisor.
+    most: BTreeMap<u16, u64>,
 }
 
 /// What a judge found.
@@ -141,24 +166,65 @@ pub struct Verdict {
     pub given_up: usize,
 }
 
-/// A chip, and how long what it sends has been under way: since when, and for how many ticks. An idle chip has 0 of both.
+/// The first of the two moments at which a character ends.
+#[derive(Clone, Copy, PartialEq, Eq, PartialOrd, Ord)]
+enum Moment {
+    /// It is received, and the transmitter is not done with it.
+    Received,
+    /// The transmitter is done with this character, and it is not received.
+    Sent(u8),
+}
+
+/// A character that is at its end, and when it was so at the latest.
+#[derive(Clone, Copy)]
+struct Ending {
+    first: Moment,
+    since: u64,
+}
+
+/// A chip, the character that is at its end in it, and how long what it sends has been under way: since when, and for how many ticks. An
+/// idle chip has 0 of both.
 #[derive(Clone)]
 struct State {
     chip: ChipInC,
+    ending: Option<Ending>,
     since: u64,
     ticks: u64,
 }
 
-type States = BTreeMap<(Key, u64, u64), State>;
+/// What tells a state from others: the chip, the character at its end, and times.
+type StateKey = (Key, Option<Moment>, u64, u64);
+type States = BTreeMap<StateKey, State>;
+
+/// Adds a state, and returns whether there is none yet that differs at most in the time since when a character is at its end. The later
+/// allows more.
+fn keep(states: &mut States, state: State) -> bool {
+    match states.entry(state.key()) {
+        Entry::Vacant(place) => {
+            place.insert(state);
+            true
+        }
+        Entry::Occupied(mut place) => {
+            if place.get().ending_since() < state.ending_since() {
+                place.insert(state);
+            }
+            false
+        }
+    }
+}
 
 impl State {
-    fn of(chip: ChipInC, since: u64, ticks: u64) -> Self {
+    fn of(chip: ChipInC, ending: Option<Ending>, since: u64, ticks: u64) -> Self {
         let (since, ticks) = if chip.is_idle() { (0, 0) } else { (since, ticks) };
-        Self { chip, since, ticks }
+        Self { chip, ending, since, ticks }
     }
 
-    fn key(&self) -> (Key, u64, u64) {
-        (self.chip.key(), self.since, self.ticks)
+    fn key(&self) -> StateKey {
+        (self.chip.key(), self.ending.map(|ending| ending.first), self.since, self.ticks)
+    }
+
+    fn ending_since(&self) -> Option<u64> {
+        self.ending.map(|ending| ending.since)
     }
 
     /// Whether one more tick can have passed until a time, if a character takes so long at least. The first tick takes a character out of
@@ -166,11 +232,38 @@ impl State {
     fn can_tick(&self, until: u64, character: u64) -> bool {
         self.chip.is_idle() || self.ticks < 2 * (until.saturating_sub(self.since) / character) + 2
     }
+
+    /// The state when the character at its end has ended.
+    fn ended(&self) -> Self {
+        let mut chip = self.chip.clone();
+        match self.ending.map(|ending| ending.first) {
+            None => {}
+            Some(Moment::Received) => chip.end_sending(),
+            Some(Moment::Sent(byte)) => chip.receive(byte),
+        }
+        Self::of(chip, None, self.since, self.ticks)
+    }
+
+    /// What follows when half of the time of a character has passed, of which so many ticks count, and an access is made by then: a
+    /// character that ends has either moment first.
+    fn ticked(&self, made: u64, ticks: u64) -> Vec<Self> {
+        let after = |tick: &dyn Fn(&mut ChipInC), first: Option<Moment>| {
+            let mut chip = self.chip.clone();
+            tick(&mut chip);
+            Self::of(chip, first.map(|first| Ending { first, since: made }), self.since, self.ticks + ticks)
+        };
+        match self.chip.ending() {
+            None => vec![after(&|chip| chip.tick(), None)],
+            Some(byte) => {
+                vec![after(&|chip| chip.receive(byte), Some(Moment::Received)), after(&|chip| chip.end_sending(), Some(Moment::Sent(byte)))]
+            }
+        }
+    }
 }
 
 struct Judge {
     kind: Kind,
-    least_times: BTreeMap<u16, u64>,
+    times: Times,
     /// What was last written to each register, or read of it: LCR, MCR, IER and SCR keep it. DLL and DLM at 8 and 9.
     known: [u8; 10],
     fcr: Option<u8>,
@@ -183,25 +276,41 @@ impl Judge {
         usize::from(if self.known[3] & DLAB != 0 && offset < 2 { offset + 8 } else { offset })
     }
 
-    /// How long a character takes at least: as long as at a smaller divisor.
-    fn character(&self) -> Option<u64> {
-        let divisor = u16::from_le_bytes([self.known[8], self.known[9]]);
-        self.least_times.range(..=divisor).map(|(_, time)| *time).max().filter(|time| *time > 0)
+    fn divisor(&self) -> u16 {
+        u16::from_le_bytes([self.known[8], self.known[9]])
     }
 
-    /// The states that can follow by time alone until an access is over. A chip in which nothing goes on stays as it is, so there are few.
-    fn pass_time(&self, until: Option<u64>) -> States {
-        let bound = until.zip(self.character());
+    /// How long a character takes at least: as long as a shorter one, and as at a smaller divisor.
+    fn character(&self) -> Option<u64> {
+        let (divisor, length) = (self.divisor(), half_bits(self.known[3]));
+        let known = self.times.least.iter().filter(|((of, bits), _)| *of <= divisor && *bits <= length);
+        known.map(|(_, time)| *time).max().filter(|time| *time > 0)
+    }
+
+    /// How long a bit takes at most, no longer than at a larger divisor.
+    fn bit(&self) -> Option<u64> {
+        self.times.most.range(self.divisor()..).map(|(_, time)| *time).min()
+    }
+
+    /// The states that can follow by time alone from the begin of an access until it is over. A chip in which nothing goes on stays as it
+    /// is, so there are few.
+    fn pass_time(&self, from: Option<u64>, until: Option<u64>) -> States {
+        let (bound, bit) = (until.zip(self.character()), self.bit());
+        // When the access is made at the latest: within a bit of its time, and before the next one.
+        let within_a_bit = from.zip(bit).map(|(from, bit)| from + bit);
+        let made = [until, within_a_bit].into_iter().flatten().min().unwrap_or(u64::MAX);
+        let is_over = |ending: Ending| from.zip(bit).is_some_and(|(from, bit)| from.saturating_sub(ending.since) > bit);
+        let of_time = |state: &State| if state.ending.is_some_and(is_over) { state.ended() } else { state.clone() };
+        let mut left: Vec<State> = self.states.values().map(of_time).collect();
         let mut all = States::new();
-        for state in self.states.values() {
-            let mut state = state.clone();
-            while let Entry::Vacant(place) = all.entry(state.key()) {
-                place.insert(state.clone());
-                if bound.is_some_and(|(until, character)| !state.can_tick(until, character)) {
-                    break;
-                }
-                state.chip.tick();
-                state = State::of(state.chip, state.since, state.ticks + u64::from(bound.is_some()));
+        while let Some(state) = left.pop() {
+            if !keep(&mut all, state.clone()) {
+                continue;
+            }
+            if state.ending.is_some() {
+                left.push(state.ended());
+            } else if bound.is_none_or(|(until, character)| state.can_tick(until, character)) {
+                left.extend(state.ticked(made, u64::from(bound.is_some())));
             }
         }
         all
@@ -215,12 +324,13 @@ impl Judge {
             chip.write(offset, value);
         }
         chip.read(MSR);
-        let state = State::of(chip, 0, 0);
+        let state = State::of(chip, None, 0, 0);
         self.states = States::from([(state.key(), state)]);
     }
 
     /// Keeps the states that answer a read so. Returns what all of them answer if none is left.
-    fn read(&mut self, offset: u8, value: u8, until: Option<u64>) -> Result<(), Vec<u8>> {
+    fn read(&mut self, access: &Access, until: Option<u64>) -> Result<(), Vec<u8>> {
+        let Access { offset, value, time, .. } = *access;
         if self.states.is_empty() {
             let place = self.place(offset);
             if [1, 3, 4, 7, 8, 9].contains(&place) {
@@ -232,10 +342,10 @@ impl Judge {
             return Ok(());
         }
         let (mut after, mut answers) = (States::new(), Vec::new());
-        for mut state in self.pass_time(until).into_values() {
+        for mut state in self.pass_time(time, until).into_values() {
             let answer = state.chip.read(offset);
             if answer == value {
-                after.insert(state.key(), state);
+                keep(&mut after, state);
             } else {
                 answers.push(answer);
             }
@@ -252,11 +362,10 @@ impl Judge {
             self.fcr = Some(access.value);
         }
         let mut after = States::new();
-        for mut state in self.pass_time(until).into_values() {
+        for mut state in self.pass_time(access.time, until).into_values() {
             let since = if state.chip.is_idle() { access.time.unwrap_or(0) } else { state.since };
             state.chip.write(access.offset, access.value);
-            let state = State::of(state.chip, since, state.ticks);
-            after.insert(state.key(), state);
+            keep(&mut after, State::of(state.chip, state.ending, since, state.ticks));
         }
         self.verdict.most = self.verdict.most.max(after.len());
         let is_too_much = after.len() > MOST_STATES;
@@ -269,8 +378,8 @@ impl Judge {
     /// Judges equal reads in turn.
     fn read_all(&mut self, access: &Access, until: Option<u64>) {
         for _ in 0..=access.more {
-            let before: Vec<(Key, u64, u64)> = self.states.keys().cloned().collect();
-            if let Err(mut answers) = self.read(access.offset, access.value, until) {
+            let before: Vec<StateKey> = self.states.keys().cloned().collect();
+            if let Err(mut answers) = self.read(access, until) {
                 answers.sort_unstable();
                 answers.dedup();
                 let wanted: Vec<String> = answers.iter().map(|answer| format!("{answer:02x}")).collect();
@@ -289,8 +398,7 @@ impl Judge {
 
 /// Judges the loopback of a recording by a chip of a kind.
 pub fn judge(recording: &Recording, kind: Kind) -> Verdict {
-    let least_times = recording.least_times();
-    let mut judge = Judge { kind, least_times, known: [0; 10], fcr: None, states: States::new(), verdict: Verdict::default() };
+    let mut judge = Judge { kind, times: recording.times(), known: [0; 10], fcr: None, states: States::new(), verdict: Verdict::default() };
     let ends = recording.accesses.iter().skip(1).map(|next| next.time).chain([None]);
     for (access, until) in recording.accesses.iter().zip(ends) {
         if access.is_write {

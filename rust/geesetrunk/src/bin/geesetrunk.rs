@@ -7,7 +7,6 @@ use geesetrunk::budget::budget;
 use geesetrunk::census::{self, Request, Told};
 use geesetrunk::command_line::{Given, Reply, Shell, completions, manual_page, words};
 use geesetrunk::commands::{GEESETRUNK, Job};
-use geesetrunk::diff::diff;
 use geesetrunk::end::{End, Status, ended};
 use geesetrunk::excerpt::{Excerpt, Form, MOST_EVENTS, USUAL_EVENTS, timeline_of};
 use geesetrunk::explain::{explained, explanations};
@@ -23,7 +22,6 @@ use geesetrunk::port::base_in;
 use geesetrunk::sarif::Sarif;
 use geesetrunk::script::{Task, report};
 use geesetrunk::show::{Filter, REGISTERS, show};
-use geesetrunk::shrink::{Sought, shrink};
 use geesetrunk::stats::stats;
 use geesetrunk::streams::{Output, print, standard_output};
 use geesetrunk::terminal::{Colour, Style, choose_colour};
@@ -276,11 +274,8 @@ fn verify(given: &Given) -> Result<(), End> {
             "the size of the FIFOs must be 16, 32, 64, 128 or 256",
         ));
     };
-    let is_one_of_several = files(given).len() > 1;
     find(given, |format| {
-        each(given, |file| {
-            verified(file, limit, fifo_size, format, is_one_of_several)
-        })
+        each(given, |file| verified(file, limit, fifo_size, format))
     })
 }
 
@@ -330,20 +325,6 @@ fn show_recording(given: &Given) -> Result<(), End> {
         }
         show(file, &import, &filter)
     })
-}
-
-fn compare(given: &Given) -> Result<(), End> {
-    let operand = |index: usize| given.operands().get(index).map_or("", String::as_str);
-    diff([operand(0), operand(1)], &import_of(given)?)
-}
-
-fn shrink_recording(given: &Given) -> Result<(), End> {
-    let sought = Sought {
-        name: given.value("name"),
-        known: known_of(given)?,
-    };
-    let import = import_of(given)?;
-    each(given, |file| shrink(file, &import, &sought))
 }
 
 // Asks the chip at a port, or judges a recording of that.
@@ -430,8 +411,6 @@ fn run(job: Job, given: &Given) -> Result<(), End> {
             let (log, known) = (import_of(given)?, known_of(given)?);
             each(given, |file| stats(file, &log, &known, given.has("whole")))
         }
-        Job::Diff => compare(given),
-        Job::Shrink => shrink_recording(given),
         Job::Census => take_census(given),
         Job::Explain => explain(given),
         Job::Budget => print(budget(given)?.as_bytes()),

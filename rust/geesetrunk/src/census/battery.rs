@@ -153,6 +153,8 @@ struct Run<'a, C: Chip> {
     begin: u64,
     // Of the last access, since then, in steps: what a recording has, and all that is decided by.
     time: u64,
+    // When the last wait last saw that it had to go on, or when it began.
+    in_vain: u64,
     // Whether the next read is one of a wait, and not its first; and how many of the wait in a row have shown the same.
     is_wait: bool,
     repeats: u64,
@@ -260,9 +262,14 @@ impl<C: Chip> Run<'_, C> {
         mut is_wanted: impl FnMut(u8) -> bool,
     ) -> Of<u8, C> {
         let start = self.time;
+        self.in_vain = start;
         loop {
             let value = read(self)?;
-            if is_wanted(value) || self.has_passed(start, ns) {
+            let is_wanted = is_wanted(value);
+            if !is_wanted {
+                self.in_vain = self.time;
+            }
+            if is_wanted || self.has_passed(start, ns) {
                 self.is_wait = false;
                 return Ok(value);
             }
@@ -447,6 +454,18 @@ impl<C: Chip> Run<'_, C> {
         Ok(many.saturating_sub(few) / 8)
     }
 
+    // DSR changes, and then CTS. A chip that notes neither shows nothing of this.
+    fn ask_changes(&mut self) -> Of<(), C> {
+        self.begin_on()?;
+        self.put(MCR, LOOPBACK | 0x01)?;
+        self.put(MCR, LOOPBACK | 0x03)?;
+        let msr = self.get(MSR)?;
+        if msr & 0x0f != 0 {
+            self.note(Rule::DeltasStay, msr & 0x02 != 0, msr);
+        }
+        Ok(())
+    }
+
     fn ask_fifos(&mut self) -> Of<(), C> {
         self.put(FCR, 0x00)?;
         let off = self.get(ISR)?;
@@ -528,6 +547,48 @@ impl<C: Chip> Run<'_, C> {
         Ok(())
     }
 
+    // As a driver meets the chip most often: THR is empty, and the shift register is not. Returns how many come back of a character and a
+    // burst behind it, OTHERS more if they are not what was written, and whether the character was still going out.
+    fn count_burst_behind(&mut self, size: u8) -> Of<(u32, bool), C> {
+        self.begin_on()?;
+        self.put(DATA, 0x30)?;
+        let was_behind = self.wait_for_room()? & TRANSMITTER_EMPTY == 0;
+        for value in 0x31..=0x30 + size {
+            self.put(DATA, value)?;
+        }
+        // Taken as they come, since a receiver does not hold them all, and by the time alone: a chip that lost some may show anything.
+        let (start, wait) = (self.time, (u64::from(size) + 8) * u64::from(self.character));
+        let (mut count, mut are_others) = (0_u32, false);
+        while count < MOST && !self.has_passed(start, wait) {
+            let is_ready = self.get_lsr()? & DATA_READY != 0;
+            self.is_wait = !is_ready;
+            if is_ready {
+                are_others |= self.get(DATA)? != 0x30_u8.wrapping_add(count as u8);
+                count += 1;
+            }
+        }
+        self.is_wait = false;
+        // What is left in a transmitter that never shows room ends here.
+        self.put(FCR, if self.has_fifos { self.fcr() | 0x06 } else { 0 })?;
+        Ok((count + if are_others { OTHERS } else { 0 }, was_behind))
+    }
+
+    // Who looks may be held up until a receiver overruns, so one try in which all come back counts.
+    fn ask_burst_behind(&mut self) -> Of<(), C> {
+        let size = if self.has_fifos { 16 } else { 1 };
+        let all = u32::from(size) + 1;
+        let (mut count, mut was_behind) = (0, false);
+        for _ in 0..TRIES {
+            if !(was_behind && count == all) {
+                (count, was_behind) = self.count_burst_behind(size)?;
+            }
+        }
+        if was_behind {
+            self.note(Rule::BurstBehind, count == all, count);
+        }
+        Ok(())
+    }
+
     fn ask_receive_fifo(&mut self) -> Of<(), C> {
         let mut size = 0;
         self.begin_on()?;
@@ -577,6 +638,9 @@ impl<C: Chip> Run<'_, C> {
 
     fn ask_sizes(&mut self) -> Of<(), C> {
         self.ask_burst()?;
+        if self.has_time {
+            self.ask_burst_behind()?;
+        }
         if !self.has_fifos {
             return Ok(());
         }
@@ -631,16 +695,33 @@ impl<C: Chip> Run<'_, C> {
         (u64::from(ns) * 10 / u64::from(character)) as u32
     }
 
+    // Whether a timeout that was waited for comes three to six characters behind one that was sent at `sent` and took `least` at least. Who
+    // looks may be held up: so it is too early by the look that shows it, and too late by the last one that does not.
+    fn note_timeout(&mut self, sent: u64, least: u64) {
+        let character = u64::from(self.character);
+        let arrived = sent + character;
+        let is_early = self.time < sent + 4 * least;
+        let is_late = self.in_vain > arrived + 6 * character;
+        let tenths = self.time.saturating_sub(arrived) * 10 / character;
+        self.note(Rule::TimeoutWhen, !is_early && !is_late, tenths as u32);
+    }
+
     fn ask_timeout(&mut self) -> Of<(), C> {
         self.begin(0xc1)?;
         self.put(IER, 0x01)?;
-        self.send(0x41)?;
+        self.put(DATA, 0x41)?;
+        let sent = self.time;
+        self.flush()?;
+        let least = self.in_vain - sent;
         let Some(ns) = self.wait_for_code(TIMEOUT, 50)? else {
             self.note(Rule::Timeout, false, 0_u32);
             return Ok(());
         };
         let tenths = Self::tenths_of_character(ns, self.usual_character());
         self.note(Rule::Timeout, true, tenths);
+        if self.has_time {
+            self.note_timeout(sent, least);
+        }
         self.send(0x42)?;
         let code = self.get_code()?;
         self.note(Rule::TimeoutKept, code == TIMEOUT, code);
@@ -760,6 +841,7 @@ impl<C: Chip> Run<'_, C> {
         }
         self.ask(&REGISTERS)?;
         self.ask(&MODEM)?;
+        self.ask_changes()?;
         // If the first character does not come back, it may be on the line, and the others are to stay here.
         self.ask(&FIRST)?;
         if self.rows[Rule::Echo as usize].seen != Seen::Holds {
@@ -879,6 +961,7 @@ pub fn take<C: Chip>(chip: &mut C) -> Result<Census, C::Fault> {
         is_without_clock: false,
         begin,
         time: 0,
+        in_vain: 0,
         is_wait: false,
         repeats: 0,
         last_look: 0,

@@ -34,6 +34,8 @@ pub enum Rule {
     Lines,
     /// a change of CTS, DSR or CD is noted, and of RI its end alone.
     Deltas,
+    /// a change stays noted through later ones, until MSR is read.
+    DeltasStay,
     /// a read of MSR clears bits 0 to 3.
     MsrClears,
     /// a change interrupts with 0000 until MSR is read.
@@ -58,6 +60,8 @@ pub enum Rule {
     ThreFirst,
     /// after one look 16 bytes are taken, and come back in order (1 without FIFO).
     Burst,
+    /// after THR_EMPTY 16 fit behind a character that goes out (1 without FIFO).
+    BurstBehind,
     /// the transmit FIFO holds 16.
     SendSize,
     /// the receive FIFO holds 16, and the 17th overruns.
@@ -80,6 +84,8 @@ pub enum Rule {
     TriggerEnds,
     /// fewer than the level interrupt with 1100 after four characters: tenths of one.
     Timeout,
+    /// it comes three to six characters behind the last: tenths of one.
+    TimeoutWhen,
     /// a read of DATA ends the timeout.
     TimeoutEnds,
     /// a further character leaves the timeout pending.
@@ -147,7 +153,7 @@ pub struct Words {
 }
 
 /// All rules, in the order of the table.
-pub const RULES: [Words; 55] = [
+pub const RULES: [Words; 58] = [
     Words {
         rule: Rule::Scratch,
         name: "scratch",
@@ -233,6 +239,12 @@ pub const RULES: [Words; 55] = [
         unit: Unit::Hex,
     },
     Words {
+        rule: Rule::DeltasStay,
+        name: "changes-stay",
+        text: "a change stays noted through later ones, until MSR is read",
+        unit: Unit::Hex,
+    },
+    Words {
         rule: Rule::MsrClears,
         name: "msr-clears",
         text: "a read of MSR clears bits 0 to 3",
@@ -305,6 +317,12 @@ pub const RULES: [Words; 55] = [
         unit: Unit::Count,
     },
     Words {
+        rule: Rule::BurstBehind,
+        name: "burst-behind",
+        text: "after THR_EMPTY 16 fit behind a character that goes out (1 without FIFO)",
+        unit: Unit::Count,
+    },
+    Words {
         rule: Rule::SendSize,
         name: "send-fifo",
         text: "the transmit FIFO holds 16",
@@ -368,6 +386,12 @@ pub const RULES: [Words; 55] = [
         rule: Rule::Timeout,
         name: "timeout",
         text: "fewer than the level interrupt with 1100 after four characters: tenths of one",
+        unit: Unit::Tenths,
+    },
+    Words {
+        rule: Rule::TimeoutWhen,
+        name: "timeout-when",
+        text: "it comes three to six characters behind the last: tenths of one",
         unit: Unit::Tenths,
     },
     Words {
@@ -493,7 +517,12 @@ pub struct Premise {
 pub const PREMISES: [Premise; 9] = [
     Premise {
         text: "no data write meets a full transmitter: after THR_EMPTY there is room for as many as are set",
-        rules: &[Rule::Burst, Rule::SendSize, Rule::TemtThre],
+        rules: &[
+            Rule::Burst,
+            Rule::BurstBehind,
+            Rule::SendSize,
+            Rule::TemtThre,
+        ],
     },
     Premise {
         text: "the wire grows by what was reported, in order",

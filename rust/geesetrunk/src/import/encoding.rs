@@ -1,8 +1,11 @@
-//! What a file is that is no text of one byte a character, by its first bytes.
+//! What a file is that is no text of one byte a character, by its first bytes; and what programs leave around the lines of a text.
 
 use std::fmt;
 
-/// What a file is, and no log.
+/// The mark that some programs write in front of UTF-8.
+pub const BYTE_ORDER_MARK: &[u8] = b"\xef\xbb\xbf";
+
+/// What a file is, and neither a log nor a script.
 #[derive(Clone, Copy, Debug, PartialEq, Eq)]
 pub enum Encoding {
     /// Compressed by gzip.
@@ -60,13 +63,57 @@ impl fmt::Display for Encoding {
             Encoding::Xz => "it is compressed by xz",
             Encoding::Bzip2 => "it is compressed by bzip2",
             Encoding::Utf16 => "its text is in UTF-16",
-            Encoding::Elf => "it is a program, and no log",
+            Encoding::Elf => "it is a program, and no text",
         })?;
         match self.remedy() {
             Some(program) => write!(f, ". Write {program} FILE | geesetrunk COMMAND"),
             None => Ok(()),
         }
     }
+}
+
+/// Returns whether lines end in a carriage return, by the first one.
+pub fn has_carriage_returns(bytes: &[u8]) -> bool {
+    let mut lines = bytes.split(|&byte| byte == b'\n');
+    lines.next().is_some_and(|line| line.ends_with(b"\r"))
+}
+
+/// Returns a text without the mark of UTF-8 in front, and without the carriage return in which each line ends if the first one does. Lines
+/// and columns stay as they are.
+///
+/// # Errors
+///
+/// What the bytes are, if they are no text of one byte a character.
+///
+/// # Examples
+///
+/// ```
+/// use geesetrunk::import::{Encoding, text_in};
+///
+/// assert_eq!(text_in(b"\xef\xbb\xbflsr\r\nmsr\r\n".to_vec()), Ok(b"lsr\nmsr\n".to_vec()));
+/// assert_eq!(text_in(b"\xff\xfel\0".to_vec()), Err(Encoding::Utf16));
+/// ```
+pub fn text_in(mut bytes: Vec<u8>) -> Result<Vec<u8>, Encoding> {
+    if let Some(encoding) = Encoding::of(&bytes) {
+        return Err(encoding);
+    }
+    if bytes.starts_with(BYTE_ORDER_MARK) {
+        bytes.drain(..BYTE_ORDER_MARK.len());
+    }
+    if has_carriage_returns(&bytes) {
+        // In place, since a trace may be long.
+        let mut kept = 0;
+        for at in 0..bytes.len() {
+            let is_of_an_end =
+                bytes[at] == b'\r' && matches!(bytes.get(at + 1), None | Some(b'\n'));
+            if !is_of_an_end {
+                bytes[kept] = bytes[at];
+                kept += 1;
+            }
+        }
+        bytes.truncate(kept);
+    }
+    Ok(bytes)
 }
 
 #[cfg(test)]
@@ -85,6 +132,9 @@ mod tests {
         ] {
             assert_eq!(Encoding::of(bytes), encoding, "{bytes:?}");
         }
+        assert_eq!(text_in(b"a\rb\r\nc\r".to_vec()), Ok(b"a\rb\nc".to_vec()));
+        // A carriage return that the first line has not is a byte of its line.
+        assert_eq!(text_in(b"a\nb\r\n".to_vec()), Ok(b"a\nb\r\n".to_vec()));
         assert_eq!(
             Encoding::Zstd.to_string(),
             "it is compressed by zstd. Write zstdcat FILE | geesetrunk COMMAND"

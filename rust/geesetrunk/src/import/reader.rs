@@ -2,7 +2,7 @@
 
 use super::csv::Csv;
 use super::detect::{Detector, Guess, Shown};
-use super::encoding::Encoding;
+use super::encoding::{BYTE_ORDER_MARK, Encoding, has_carriage_returns};
 use super::json::Json;
 use super::kvm::Kvm;
 use super::plain::{self, Plain};
@@ -15,9 +15,6 @@ use std::cell::RefCell;
 use std::io::{self, Cursor, ErrorKind, Read};
 use std::rc::Rc;
 use uart_judges::recording::limits::MOST_LINE_BYTES;
-
-// The mark that some programs write in front of UTF-8.
-const BYTE_ORDER_MARK: &[u8] = b"\xef\xbb\xbf";
 
 // How much is read at a time, and how much is looked at to find out the kind.
 const CHUNK: usize = 65_536;
@@ -213,12 +210,6 @@ fn head_of(reader: &mut impl Read) -> io::Result<Head> {
             return Ok(Head { bytes, shown });
         }
     }
-}
-
-// Returns whether lines end in a carriage return, by the first one.
-fn has_carriage_returns(bytes: &[u8]) -> bool {
-    let mut lines = bytes.split(|&byte| byte == b'\n');
-    lines.next().is_some_and(|line| line.ends_with(b"\r"))
 }
 
 /// Opens a log of any kind, which is read as a recording. Without a kind it is recognised by its first lines, and if none shows what it

@@ -242,7 +242,7 @@ fn refused(line: u32, column: usize, cause: &str, wants: &str) -> String {
 
 fn why_refused(bytes: &[u8], line: u32, cause: Cause) -> String {
     match Explanation::new("", bytes, line, cause).line {
-        Some(at) => refused(at.number, at.column, cause.text(), &at.wants),
+        Some(at) => refused(line, at.refusal.column, cause.text(), &at.refusal.wants),
         None => refused(0, 0, cause.text(), "a script has at most 65536 bytes"),
     }
 }

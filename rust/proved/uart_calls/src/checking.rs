@@ -3,7 +3,7 @@
 use crate::performing::perform;
 use crate::tape::{Recorded, Request, Tape};
 use uart_16550::{DriverState, Uart16550, Uart16550Tty};
-use uart_events::{Answer, Call};
+use uart_call::{Answer, Call};
 
 /// What a call returned, and the state of the driver after it.
 #[derive(Debug)]

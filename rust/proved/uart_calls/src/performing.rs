@@ -5,7 +5,7 @@ use bitflags::Flags;
 use uart_16550::backend::Backend;
 use uart_16550::embedded_io::{Read, ReadReady, Write, WriteReady};
 use uart_16550::{Uart16550, Uart16550Tty};
-use uart_events::{Answer, CALL_BYTES, Call};
+use uart_call::{Answer, CALL_BYTES, Call};
 use uart_spec::{
     AttachError, ByteReceiveError, ByteSendError, Config, ConfigurationError, FifosOffError,
     FrameError, InitError, InvalidDivisorError, LoopbackError, Received, RemoteReadyToReceiveError,
@@ -127,8 +127,7 @@ pub fn perform_on_driver<B: Backend>(uart: &mut Uart16550<B>, call: &Call) -> An
     }
 }
 
-// Returns a copy of these items, for an answer. Copies one by one, because a copy of the whole
-// would call `memcpy`, and the library for C calls nothing.
+// Returns a copy of these items, for an answer.
 fn copied<T: Copy + Default>(items: &[T]) -> ArrayVec<T, CALL_BYTES> {
     let mut copy = ArrayVec::new();
     for item in items {

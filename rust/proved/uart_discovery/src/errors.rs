@@ -312,6 +312,3 @@ impl std::fmt::Display for TreeError {
         }
     }
 }
-
-#[automatically_derived]
-impl std::error::Error for TreeError {}

@@ -30,4 +30,6 @@ pub use port::{AddressSpace, Frame, Interrupt, PortDescription};
 pub use tree::console::{read_device_tree, read_tree_node};
 pub use tree::ports::{TreePort, read_tree_port};
 
+mod by_hand;
+
 pub mod proved;

@@ -1,4 +1,4 @@
-//! Definitions of `uart_events`: what happens to a driver or to its chip from outside, as plain data.
+//! Definitions of `uart_events`: what happens to a chip from outside, as plain data.
 //!
 //! Each is one that a section "Proved" of a call names. How a section is read is said [here](uart_spec::proved).
 
@@ -37,30 +37,3 @@
 /// It uses `has_bad_errors`, `has_bad_lines` of this file.
 #[doc(alias("is_arrival", "refusal"))]
 pub mod build {}
-
-/// Calls of a driver.
-///
-/// From `crates/uart_events/specs/Calls.antt`.
-///
-/// <span id="IsRunnable"></span>
-///
-/// # `IsRunnable`
-///
-/// A count is at most that of a call's bytes, and a configuration is computable.
-///
-/// ```text
-/// abbrev pub IsRunnable : Call → Type 0
-/// IsRunnable (call.Init config) = IsComputable config
-/// IsRunnable (call.InitWith config setup) = IsComputable config
-/// IsRunnable (call.SetFrame config) = IsComputable config
-/// IsRunnable (call.SetFrameWhenIdle config) = IsComputable config
-/// IsRunnable (call.Receive count) = count ≤ CALL_BYTES
-/// IsRunnable (call.ReceiveExact count) = count ≤ CALL_BYTES
-/// IsRunnable (call.ReceiveWithErrors count) = count ≤ CALL_BYTES
-/// IsRunnable (call.Read count) = count ≤ CALL_BYTES
-/// IsRunnable other = ⊤
-/// ```
-///
-/// It uses [`IsComputable`](uart_spec::proved::config#IsComputable).
-#[doc(alias("IsRunnable"))]
-pub mod calls {}

@@ -24,7 +24,7 @@ pub enum Cause {
     BadNumber,
     /// Hexadecimal digits have a wrong form.
     BadHex,
-    /// There are more bytes than [`CALL_BYTES`](uart_events::CALL_BYTES).
+    /// There are more bytes than [`CALL_BYTES`](uart_call::CALL_BYTES).
     TooManyBytes,
     /// The bytes of a text are not UTF-8.
     BadText,

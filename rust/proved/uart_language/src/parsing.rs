@@ -9,7 +9,8 @@ use super::text::{first_line, word_at};
 use super::words::{Place, Word, is_named};
 use std::alloc::{AllocError, Global};
 use std::num::NonZeroU64;
-use uart_events::{Call, Chip, Event};
+use uart_call::Call;
+use uart_events::{Chip, Event};
 use uart_spec::FifoSize;
 
 /// A script: a chip, what happens to it, and the calls that are made.

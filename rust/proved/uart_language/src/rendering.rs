@@ -4,7 +4,8 @@ use std::{ToStringWith as _, Vec};
 
 use bitflags::Flags;
 use std::alloc::{AllocError, Global};
-use uart_events::{Answer, ArrivalMark};
+use uart_call::Answer;
+use uart_events::ArrivalMark;
 use uart_spec::{
     AttachError, ByteSendError, ConfigRegisterDump, ConfigurationError, FrameError, InitError,
     InvalidDivisorError, LoopbackError, Received, RemoteReadyToReceiveError,

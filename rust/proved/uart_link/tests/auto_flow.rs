@@ -28,7 +28,7 @@ fn rings(size: FifoSize) -> Uart16550Ring<CabledChip> {
     uart.set_modem_control(MCR::from_bits_retain(0x22));
     match Uart16550Ring::new(GlobalOfRings::heap(), uart, 128, 32) {
         Ok(ring) => ring,
-        Err((_, cause)) => panic!("{cause}"),
+        Err(refused) => panic!("{refused}"),
     }
 }
 

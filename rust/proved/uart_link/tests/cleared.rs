@@ -23,7 +23,7 @@ fn rings() -> Uart16550Ring<CabledChip> {
     .unwrap();
     match Uart16550Ring::new(GlobalOfRings::heap(), uart, 32, 32) {
         Ok(ring) => ring,
-        Err((_, cause)) => panic!("{cause}"),
+        Err(refused) => panic!("{refused}"),
     }
 }
 

@@ -29,7 +29,7 @@ fn rings(receive_capacity: usize, check_cts_before_sending: bool) -> Uart16550Ri
     .unwrap();
     match Uart16550Ring::new(GlobalOfRings::heap(), uart, 32, receive_capacity) {
         Ok(ring) => ring,
-        Err((_, cause)) => panic!("{cause}"),
+        Err(refused) => panic!("{refused}"),
     }
 }
 

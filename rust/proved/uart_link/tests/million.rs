@@ -92,7 +92,7 @@ fn rings(choice: &Choice) -> Uart16550Ring<CabledChip> {
     let alloc = GlobalOfRings::heap();
     match Uart16550Ring::new(alloc, uart, choice.transmit, choice.receive) {
         Ok(ring) => ring,
-        Err((_, cause)) => panic!("{cause}"),
+        Err(refused) => panic!("{refused}"),
     }
 }
 

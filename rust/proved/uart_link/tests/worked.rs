@@ -22,7 +22,7 @@ fn rings() -> Uart16550Ring<CabledChip> {
     .unwrap();
     match Uart16550Ring::new(GlobalOfRings::heap(), uart, 32, 32) {
         Ok(rings) => rings,
-        Err((_, cause)) => panic!("{cause}"),
+        Err(refused) => panic!("{refused}"),
     }
 }
 

@@ -37,7 +37,7 @@ fn rings_over(chip: CabledChip, receive_capacity: usize) -> Uart16550Ring<Cabled
     .unwrap();
     match Uart16550Ring::new(GlobalOfRings::heap(), uart, 48, receive_capacity) {
         Ok(ring) => ring,
-        Err((_, cause)) => panic!("{cause}"),
+        Err(refused) => panic!("{refused}"),
     }
 }
 

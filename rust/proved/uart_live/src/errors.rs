@@ -3,6 +3,7 @@ use crate::fixed::WIRE_ROOM;
 use uart_events::MAX_CHAR_TICKS;
 
 /// Why a character or a change of the modem lines was refused.
+#[non_exhaustive]
 #[derive(Clone, Copy, Debug, PartialEq, Eq)]
 pub enum InputError {
     /// A character has error bits other than parity, framing and break.
@@ -37,6 +38,7 @@ impl std::fmt::Display for InputError {
 impl std::error::Error for InputError {}
 
 /// Why no chip was made: the first reason in this order.
+#[non_exhaustive]
 #[derive(Clone, Copy, Debug, PartialEq, Eq)]
 pub enum ChipError {
     /// A FIFO holds 16, 32, 64, 128 or 256 characters, and no other number.
@@ -78,6 +80,7 @@ impl std::fmt::Display for ChipError {
 impl std::error::Error for ChipError {}
 
 /// Why no chip was restored.
+#[non_exhaustive]
 #[derive(Clone, Copy, Debug, PartialEq, Eq)]
 pub enum RestoreError {
     /// The data are not those of a sound chip.

@@ -11,11 +11,11 @@ use uart_chip::receiving::{ReceiverParts, take_front};
 use uart_chip::transmitting::TransmitterParts;
 use uart_chip::{Character, NoCapabilities, Origin, Uart, room_of};
 use uart_events::{Chip, MAX_CHAR_TICKS};
-use uart_spec::registers::{IER, LCR, LSR, MSR, offsets};
+use uart_spec::registers::{IER, LCR, LSR, MCR, MSR, offsets};
 use uart_spec::{FIFO_SIZE, FifoSize};
 
 // A chip all of whose memory is in arrays, without a schedule. So no call can be refused memory.
-// The wire has room for 64 bytes, as in the library for C: its owner takes them after each `ticks`.
+// The wire has room for 64 bytes, as in the port in C: its owner takes them after each `ticks`.
 // It is a 16550A or a 16450, which have neither automatic flow control nor a switch of their size.
 type LiveUart<const FIFO: usize> = Uart<
     FixedFifo<u8, FIFO>,
@@ -972,6 +972,45 @@ impl<const FIFO: usize> LiveChipWith<FIFO> {
     #[must_use]
     pub fn is_dlab_set(&self) -> bool {
         self.uart.is_dlab_set()
+    }
+
+    /// Returns the outputs of the guest as the lines have them: those of DTR, RTS, OUT1 and OUT2
+    /// that are on, and no other bit. In loopback all are off.
+    ///
+    /// # Examples
+    ///
+    /// ```
+    /// # include!(concat!(env!("CARGO_MANIFEST_DIR"), "/examples.rs"));
+    /// # fn main() {}
+    /// # use uart_16550_chip::registers::MCR;
+    /// # fn example(chip: &LiveChip) -> Outcome<()> {
+    /// let is_driving = chip.outputs().contains(MCR::RTS);
+    /// # Ok(()) }
+    /// ```
+    ///
+    /// # Proved
+    ///
+    /// - `result.0` is [`outputs`](crate::proved::outputs#outputs) `self.now.latches`: the outputs as the lines have them: DTR, RTS, OUT1 and OUT2 as MCR has them; in loopback all are off.
+    ///
+    /// <details><summary>The clauses</summary>
+    ///
+    /// [How to read them](uart_spec::proved):
+    ///
+    /// ```text
+    /// ensures { result.0 ≡ outputs self.now.latches }
+    /// ```
+    ///
+    /// </details>
+    #[must_use]
+    pub fn outputs(&self) -> MCR {
+        if self.uart.is_loopback() {
+            return MCR::from_bits_retain(0);
+        }
+        let outputs = MCR::DTR
+            .union(MCR::RTS)
+            .union(MCR::OUT_1)
+            .union(MCR::OUT_2_INT_ENABLE);
+        self.uart.mcr().intersection(outputs)
     }
 
     /// Returns whether the guest sends a break: LCR bit 6 is set, and a line would be at 0 as long.

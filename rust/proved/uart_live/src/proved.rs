@@ -258,3 +258,23 @@ pub mod refused {}
 /// It uses [`with_thr_pending`](uart_chip::proved::chip#with_thr_pending), [`expire`](crate::proved::held#expire); `ChipState` of `crates/uart_chip/specs/Chip.antt`.
 #[doc(alias("clear_status", "passed", "when_due"))]
 pub mod quick {}
+
+/// What a live chip drives its outputs to.
+///
+/// From `crates/uart_live/specs/Outputs.antt`.
+///
+/// <span id="outputs"></span>
+///
+/// # `outputs`
+///
+/// The outputs as the lines have them: DTR, RTS, OUT1 and OUT2 as MCR has them; in loopback all are off.
+///
+/// ```text
+/// abbrev pub outputs : LatchesState → ℕ
+/// outputs l =
+///     if is_loopback l then 0
+///     else bit_and l.mcr (MCR.DTR.0 + MCR.RTS.0 + MCR.OUT_1.0 + MCR.OUT_2_INT_ENABLE.0)
+/// ```
+///
+/// It uses [`is_loopback`](uart_chip::proved::chip#is_loopback); `LatchesState` of `crates/uart_chip/specs/Chip.antt`.
+pub mod outputs {}

@@ -15,14 +15,18 @@ extern crate geesetrunk_kit as bitflags;
 mod line;
 mod notes;
 mod queue;
+mod refused;
 mod ring;
 mod shown;
 
 pub use line::{LinePort, LinePorts, handle_line, handle_ports};
 pub use notes::{ErrorNotes, UnnotedError};
+pub use refused::Refused;
 pub use ring::{
     HandleEnd, Handled, Lowered, MAX_CAPACITY, MAX_INTERRUPTS, ReceiveMarks, RingError, StuckError,
     Uart16550Ring,
 };
+
+mod by_hand;
 
 pub mod proved;

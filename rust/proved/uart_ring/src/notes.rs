@@ -1,6 +1,7 @@
 //! Which errors each received byte came with: a backend that notes them beside the rings.
 
 use crate::queue::ByteQueue;
+use crate::refused::Refused;
 use crate::ring::{RingError, is_capacity};
 use bitflags::Flags;
 use std::alloc::Global;
@@ -54,12 +55,8 @@ impl std::error::Error for UnnotedError {}
 /// # include!(concat!(env!("CARGO_MANIFEST_DIR"), "/examples.rs"));
 /// # fn main() {}
 /// # use facade::ring::*;
-/// # enum StartError { NoRings(RingError) }
-/// # fn example(alloc: Global, backend: Device) -> Result<(), StartError> {
-/// let noting = match ErrorNotes::new(alloc, backend, 256) {
-///     Ok(noting) => noting,
-///     Err((_backend, cause)) => return Err(StartError::NoRings(cause)),
-/// };
+/// # fn example(alloc: Global, backend: Device) -> Result<(), RingError> {
+/// let noting = ErrorNotes::new(alloc, backend, 256)?;
 /// let uart = Uart16550::new_with_backend(noting);
 /// # Ok(()) }
 /// ```
@@ -98,21 +95,17 @@ impl<B: Backend> ErrorNotes<B> {
     /// # include!(concat!(env!("CARGO_MANIFEST_DIR"), "/examples.rs"));
     /// # fn main() {}
     /// # use facade::ring::*;
-    /// # enum StartError { NoRings(RingError) }
-    /// # fn example(alloc: Global, backend: Device) -> Result<(), StartError> {
-    /// let noting = match ErrorNotes::new(alloc, backend, 256) {
-    ///     Ok(noting) => noting,
-    ///     Err((_backend, cause)) => return Err(StartError::NoRings(cause)),
-    /// };
+    /// # fn example(alloc: Global, backend: Device) -> Result<(), RingError> {
+    /// let noting = ErrorNotes::new(alloc, backend, 256)?;
     /// # Ok(()) }
     /// ```
     ///
     /// # Proved
     ///
     /// - *made*: if it returns `Ok notes`: [`AreNew`](crate::proved::notes#AreNew) `notes backend capacity`: notes of nothing over this backend, with room for the errors of so many bytes.
-    /// - *refused*: unless [`IsCapacity`](crate::proved::ring#IsCapacity) `capacity`: returns `Err (backend, RingError.BadCapacity)`.
+    /// - *refused*: unless [`IsCapacity`](crate::proved::ring#IsCapacity) `capacity`: returns `Err (record { given = backend; cause = RingError.BadCapacity })`.
     ///   - [`IsCapacity`](crate::proved::ring#IsCapacity): how many bytes a ring can be made for: 1 to 4096.
-    /// - *accepted*: if [`IsCapacity`](crate::proved::ring#IsCapacity) `capacity`: returns `Ok`, or `Err` of `(backend, RingError.OutOfMemory)`.
+    /// - *accepted*: if [`IsCapacity`](crate::proved::ring#IsCapacity) `capacity`: returns `Ok`, or `Err` of `record { given = backend; cause = RingError.OutOfMemory }`.
     ///
     /// <details><summary>The clauses</summary>
     ///
@@ -120,17 +113,23 @@ impl<B: Backend> ErrorNotes<B> {
     ///
     /// ```text
     /// ensures made { IfOk result (λ notes. AreNew notes backend capacity) }
-    /// ensures refused { (IsCapacity capacity → ⊥) → result ≡ Err (backend, RingError.BadCapacity) }
-    /// ensures accepted { IsCapacity capacity → IsOkUnless result (backend, RingError.OutOfMemory) }
+    /// ensures refused { (IsCapacity capacity → ⊥) → result ≡ Err (record { given = backend; cause = RingError.BadCapacity }) }
+    /// ensures accepted { IsCapacity capacity → IsOkUnless result (record { given = backend; cause = RingError.OutOfMemory }) }
     /// ```
     ///
     /// </details>
-    pub fn new(alloc: Global, backend: B, capacity: usize) -> Result<Self, (B, RingError)> {
+    pub fn new(alloc: Global, backend: B, capacity: usize) -> Result<Self, Refused<B, RingError>> {
         if !is_capacity(capacity) {
-            return Err((backend, RingError::BadCapacity));
+            return Err(Refused {
+                given: backend,
+                cause: RingError::BadCapacity,
+            });
         }
         let Ok(noted) = ByteQueue::with_capacity(alloc, capacity) else {
-            return Err((backend, RingError::OutOfMemory));
+            return Err(Refused {
+                given: backend,
+                cause: RingError::OutOfMemory,
+            });
         };
         Ok(ErrorNotes {
             backend,

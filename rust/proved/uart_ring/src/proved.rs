@@ -499,12 +499,13 @@ pub mod status {}
 ///
 /// # `Services`
 ///
-/// `service`: at most 8 interrupts are served. It tells how many, and not why it ended.
+/// `service`: at most 8 interrupts are served, and bytes are sent at THR-empty alone. It tells how many, and not why it ended.
 ///
 /// ```text
 /// abbrev pub Services : ℕ → RingDoing
 /// Services count f l after =
-///     (end : HandleEnd) × ServesUpTo MAX_INTERRUPTS (record { served = count; end = end }) f l after
+///     (end : HandleEnd) × (room : Bool)
+///     × ServesUpTo false MAX_INTERRUPTS (record { served = count; end = end }) room f l after
 /// ```
 ///
 /// It uses `RingDoing` of `crates/uart_ring/specs/Ring.antt`; `ServesUpTo` of this file.
@@ -532,11 +533,13 @@ pub mod service {}
 ///
 /// # `Handles`
 ///
-/// `handle`: as many interrupts as are pending are served, but no more than the limit. Then, unless ISR has shown that none is pending, IER is read, and written with 0 and with what was read: what is left is triggered again.
+/// `handle`: as many interrupts as are pending are served, but no more than the limit; if a line status shows room, bytes that wait are sent behind the data that comes next. Then, unless ISR has shown that none is pending, IER is read, and written with 0 and with what was read: what is left is triggered again.
 ///
 /// ```text
 /// abbrev pub Handles : (limit : ℕ) → Handled → RingDoing
-/// Handles limit handled = RingNext (ServesUpTo limit handled) (RetriggersUnlessIdle handled.end)
+/// Handles limit handled f l after =
+///     (room : Bool)
+///     × RingNext (ServesUpTo true limit handled room) (RetriggersUnlessIdle room handled.end) f l after
 /// ```
 ///
 /// It uses `RingDoing`, `RingNext` of `crates/uart_ring/specs/Ring.antt`; `ServesUpTo` of `crates/uart_ring/specs/Service.antt`; `RetriggersUnlessIdle` of this file.

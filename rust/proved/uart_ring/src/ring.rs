@@ -9,6 +9,7 @@ mod storm;
 mod transmit;
 
 use crate::queue::ByteQueue;
+use crate::refused::Refused;
 use bitflags::Flags;
 pub use line::Lowered;
 pub use receive::ReceiveMarks;
@@ -65,12 +66,8 @@ impl std::error::Error for RingError {}
 /// # include!(concat!(env!("CARGO_MANIFEST_DIR"), "/examples.rs"));
 /// # fn main() {}
 /// # use facade::ring::*;
-/// # enum StartError { NoRings(RingError) }
-/// # fn example(alloc: Global, uart: Uart16550<Device>) -> Result<(), StartError> {
-/// let mut ring = match Uart16550Ring::new(alloc, uart, 1024, 256) {
-///     Ok(ring) => ring,
-///     Err((_uart, cause)) => return Err(StartError::NoRings(cause)),
-/// };
+/// # fn example(alloc: Global, uart: Uart16550<Device>) -> Result<(), RingError> {
+/// let mut ring = Uart16550Ring::new(alloc, uart, 1024, 256)?;
 /// # Ok(()) }
 /// ```
 // There is no model of the rings, as there is none of the driver: clauses speak of the fields
@@ -126,21 +123,17 @@ impl<B: Backend> Uart16550Ring<B> {
     /// # include!(concat!(env!("CARGO_MANIFEST_DIR"), "/examples.rs"));
     /// # fn main() {}
     /// # use facade::ring::*;
-    /// # enum StartError { NoRings(RingError) }
-    /// # fn example(alloc: Global, uart: Uart16550<Device>) -> Result<(), StartError> {
-    /// let mut ring = match Uart16550Ring::new(alloc, uart, 1024, 256) {
-    ///     Ok(ring) => ring,
-    ///     Err((_uart, cause)) => return Err(StartError::NoRings(cause)),
-    /// };
+    /// # fn example(alloc: Global, uart: Uart16550<Device>) -> Result<(), RingError> {
+    /// let mut ring = Uart16550Ring::new(alloc, uart, 1024, 256)?;
     /// # Ok(()) }
     /// ```
     ///
     /// # Proved
     ///
     /// - *made*: if it returns `Ok ring`: [`AreEmpty`](crate::proved::ring#AreEmpty) `ring uart tx_capacity rx_capacity`: empty rings of these capacities over this driver, in which nothing is held, paused or stuck, and XOFF was never told.
-    /// - *refused*: unless [`IsCapacity`](crate::proved::ring#IsCapacity) `tx_capacity` and [`IsCapacity`](crate::proved::ring#IsCapacity) `rx_capacity`: returns `Err (uart, RingError.BadCapacity)`.
+    /// - *refused*: unless [`IsCapacity`](crate::proved::ring#IsCapacity) `tx_capacity` and [`IsCapacity`](crate::proved::ring#IsCapacity) `rx_capacity`: returns `Err (record { given = uart; cause = RingError.BadCapacity })`.
     ///   - [`IsCapacity`](crate::proved::ring#IsCapacity): how many bytes a ring can be made for: 1 to 4096.
-    /// - *accepted*: if [`IsCapacity`](crate::proved::ring#IsCapacity) `tx_capacity` and [`IsCapacity`](crate::proved::ring#IsCapacity) `rx_capacity`: returns `Ok`, or `Err` of `(uart, RingError.OutOfMemory)`.
+    /// - *accepted*: if [`IsCapacity`](crate::proved::ring#IsCapacity) `tx_capacity` and [`IsCapacity`](crate::proved::ring#IsCapacity) `rx_capacity`: returns `Ok`, or `Err` of `record { given = uart; cause = RingError.OutOfMemory }`.
     ///
     /// <details><summary>The clauses</summary>
     ///
@@ -148,8 +141,8 @@ impl<B: Backend> Uart16550Ring<B> {
     ///
     /// ```text
     /// ensures made { IfOk result (λ ring. AreEmpty ring uart tx_capacity rx_capacity) }
-    /// ensures refused { (IsCapacity tx_capacity × IsCapacity rx_capacity → ⊥) → result ≡ Err (uart, RingError.BadCapacity) }
-    /// ensures accepted { IsCapacity tx_capacity × IsCapacity rx_capacity → IsOkUnless result (uart, RingError.OutOfMemory) }
+    /// ensures refused { (IsCapacity tx_capacity × IsCapacity rx_capacity → ⊥) → result ≡ Err (record { given = uart; cause = RingError.BadCapacity }) }
+    /// ensures accepted { IsCapacity tx_capacity × IsCapacity rx_capacity → IsOkUnless result (record { given = uart; cause = RingError.OutOfMemory }) }
     /// ```
     ///
     /// </details>
@@ -158,16 +151,25 @@ impl<B: Backend> Uart16550Ring<B> {
         uart: Uart16550<B>,
         tx_capacity: usize,
         rx_capacity: usize,
-    ) -> Result<Self, (Uart16550<B>, RingError)> {
+    ) -> Result<Self, Refused<Uart16550<B>, RingError>> {
         // A refusal returns the driver, which may hold a device that cannot be obtained again.
         if !is_capacity(tx_capacity) || !is_capacity(rx_capacity) {
-            return Err((uart, RingError::BadCapacity));
+            return Err(Refused {
+                given: uart,
+                cause: RingError::BadCapacity,
+            });
         }
         let Ok(transmit) = ByteQueue::with_capacity(alloc, tx_capacity) else {
-            return Err((uart, RingError::OutOfMemory));
+            return Err(Refused {
+                given: uart,
+                cause: RingError::OutOfMemory,
+            });
         };
         let Ok(receive) = ByteQueue::with_capacity(alloc, rx_capacity) else {
-            return Err((uart, RingError::OutOfMemory));
+            return Err(Refused {
+                given: uart,
+                cause: RingError::OutOfMemory,
+            });
         };
         Ok(Uart16550Ring {
             uart,
@@ -220,6 +222,39 @@ impl<B: Backend> Uart16550Ring<B> {
     #[must_use]
     pub fn transmit_len(&self) -> usize {
         self.transmit.len()
+    }
+
+    /// Returns the bytes of the transmit ring, the oldest first, in two parts. An urgent byte is
+    /// not among them. Makes no access.
+    ///
+    /// # Examples
+    ///
+    /// ```
+    /// # include!(concat!(env!("CARGO_MANIFEST_DIR"), "/examples.rs"));
+    /// # fn main() {}
+    /// # use facade::ring;
+    /// # fn example(ring: &mut ring::Uart16550Ring<Device>) -> Outcome<()> {
+    /// let (first, second) = ring.queued();
+    /// # Ok(()) }
+    /// ```
+    ///
+    /// # Proved
+    ///
+    /// - `result.0.now ++ result.1.now ≡ (ring_fields self.now).transmit.items`.
+    ///   - [`ring_fields`](crate::proved::ring#ring_fields): what these rings hold beside their backend.
+    ///
+    /// <details><summary>The clauses</summary>
+    ///
+    /// [How to read them](uart_spec::proved):
+    ///
+    /// ```text
+    /// ensures { result.0.now ++ result.1.now ≡ (ring_fields self.now).transmit.items }
+    /// ```
+    ///
+    /// </details>
+    #[must_use]
+    pub fn queued(&self) -> (&[u8], &[u8]) {
+        self.transmit.as_slices()
     }
 
     /// Returns how many more bytes the transmit ring has room for. Makes no access.

@@ -10,7 +10,7 @@ use lists::{
     THR_EMPTY, TIMEOUT, UNKNOWN, answers_in, assert_made, play, rings,
 };
 use proved_uart_ring::{
-    HandleEnd, Handled, MAX_CAPACITY, MAX_INTERRUPTS, ReceiveMarks, RingError, Uart16550Ring,
+    HandleEnd, Handled, MAX_CAPACITY, MAX_INTERRUPTS, ReceiveMarks, Refused, RingError, Uart16550Ring,
 };
 use std::num::NonZeroU64;
 use uart_16550::Uart16550;
@@ -348,7 +348,7 @@ fn a_refusal_returns_the_driver() {
         let mut uart = Uart16550::new_with_backend(Replay::new(&[0x60]));
         uart.set_spin_limit(NonZeroU64::new(7).unwrap());
         let refused = Uart16550Ring::new(Global::heap(), uart, tx_capacity, rx_capacity);
-        let Err((mut uart, cause)) = refused else {
+        let Err(Refused { given: mut uart, cause }) = refused else {
             panic!("made for {tx_capacity} and {rx_capacity} bytes");
         };
         assert_eq!(cause, RingError::BadCapacity);

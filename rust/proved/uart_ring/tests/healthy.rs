@@ -53,7 +53,7 @@ fn port(char_ticks: u16, ticks: u16, capacity: usize, config: Config) -> Port {
     assert_eq!(uart.init(config), Ok(()));
     match Uart16550Ring::new(Global::heap(), uart, capacity, capacity) {
         Ok(ring) => ring,
-        Err((_uart, cause)) => panic!("{cause}"),
+        Err(refused) => panic!("{refused}"),
     }
 }
 

@@ -26,6 +26,8 @@ struct Registers<const FIFO: usize> {
     now: u64,
     came: u64,
     lost: u64,
+    /// How many accesses were made.
+    made: usize,
     /// When as many waited last as this level.
     level: usize,
     reached: u64,
@@ -44,6 +46,7 @@ impl<const FIFO: usize> Registers<FIFO> {
             now: 0,
             came: 0,
             lost: 0,
+            made: 0,
             level: level.characters(fifo(FIFO)),
             reached: 0,
         }
@@ -73,11 +76,13 @@ impl<const FIFO: usize> Registers<FIFO> {
 impl<const FIFO: usize> Backend for Registers<FIFO> {
     fn read(&mut self, register_offset: u8) -> u8 {
         self.pass(self.access);
+        self.made += 1;
         self.chip.read(register_offset)
     }
 
     fn write(&mut self, register_offset: u8, value: u8) {
         self.pass(self.access);
+        self.made += 1;
         self.chip.write(register_offset, value);
     }
 }
@@ -109,11 +114,28 @@ fn listening<B: Backend>(backend: B, level: FifoTriggerLevel) -> Uart16550Ring<B
     ring
 }
 
-/// How many characters are lost if the handler begins so many ticks after as many wait as the level.
+/// How many characters are lost if the handler begins so many ticks after as many wait as the level, and each visit ends with `Idle`.
 fn lost<const FIFO: usize>(level: FifoTriggerLevel, pace: Pace, errors: LSR, late: u64) -> u64 {
+    let seen = visits::<FIFO>(level, pace, errors, late);
+    assert!(!seen.has_limit);
+    seen.lost
+}
+
+/// What is seen of the visits of a handler.
+struct Seen {
+    lost: u64,
+    /// Whether one of them ended with its limit.
+    has_limit: bool,
+    /// The most accesses of one that were for no byte: one that reads DATA is for one, and so is the look at LSR before it.
+    others: usize,
+}
+
+/// What is seen if each visit begins so late.
+fn visits<const FIFO: usize>(level: FifoTriggerLevel, pace: Pace, errors: LSR, late: u64) -> Seen {
     let mut ring = listening(Registers::<FIFO>::new(level, pace, errors), level);
     let registers = ring.inner_mut().backend_mut();
     registers.next = Some(registers.now + pace.character);
+    let mut seen = Seen { lost: 0, has_limit: false, others: 0 };
     while ring.inner().backend().came < CHARACTERS {
         // Of an error the line is up before.
         while ring.inner().backend().waiting() < ring.inner().backend().level {
@@ -121,10 +143,14 @@ fn lost<const FIFO: usize>(level: FifoTriggerLevel, pace: Pace, errors: LSR, lat
         }
         assert!(ring.inner().backend().chip.is_interrupting());
         ring.inner_mut().backend_mut().pass(late);
-        assert_eq!(ring.handle(32).end, HandleEnd::Idle);
-        let _ = ring.take(&mut [0; 1024]);
+        ring.inner_mut().backend_mut().made = 0;
+        let end = ring.handle(32).end;
+        assert!(matches!(end, HandleEnd::Idle | HandleEnd::Limit));
+        seen.has_limit |= end == HandleEnd::Limit;
+        let made = ring.inner().backend().made;
+        seen.others = seen.others.max(made - 2 * ring.take(&mut [0; 1024]));
     }
-    ring.inner().backend().lost
+    Seen { lost: ring.inner().backend().lost, ..seen }
 }
 
 fn fifo(characters: usize) -> FifoSize {
@@ -181,6 +207,41 @@ fn a_handler_at_its_budget_loses_nothing_and_a_clock_later_it_does() {
         let late = budget - access;
         assert_eq!(lost::<16>(level, pace, LSR::FRAMING_ERROR, late), 0, "{level:?}");
         assert!(lost::<16>(level, pace, LSR::FRAMING_ERROR, late + 1) > 0, "{level:?}");
+    }
+}
+
+/// A receiver looks at one stop bit, so an end that is set to two also hears one that sends one: that is faster than this end counts.
+#[test]
+fn an_end_that_is_faster_than_configured_takes_more_than_the_budget() {
+    let [config, other] = [true, false].map(|extra_stop_bits| Config {
+        baud_rate: BaudRate::Baud115200,
+        fifo_trigger_level: Some(FifoTriggerLevel::Eight),
+        extra_stop_bits,
+        ..Config::DEFAULT
+    });
+    let [two, one] = [&config, &other].map(|config| config.character_clocks().expect("a divisor"));
+    let access = config.clocks_covering(1_000).expect("in 64 bits");
+    let budget = config.handler_budget(FifoSize::Sixteen, access, 0).expect("a divisor").expect("some time");
+    let at_budget = |character| lost::<16>(FifoTriggerLevel::Eight, Pace { character, access }, LSR::empty(), budget - access);
+    assert_eq!(at_budget(two), 0);
+    assert!(at_budget(one) > 0);
+}
+
+/// There is a budget, but each character that comes during a visit may be an interrupt of its own: then the visit ends with its limit, and
+/// characters are lost. Where an access takes half a character that is so at each level, also if the handler begins at once.
+#[test]
+fn characters_are_lost_within_the_budget_where_no_visit_catches_up() {
+    use FifoTriggerLevel::{Eight, Four, Fourteen, One};
+    // How many accesses a character takes, and whether the handler begins at once.
+    for (level, accesses, is_at_once) in [(One, 4, false), (One, 2, true), (Four, 2, true), (Eight, 2, true), (Fourteen, 2, true)] {
+        let config = Config { baud_rate: BaudRate::Baud115200, fifo_trigger_level: Some(level), ..Config::DEFAULT };
+        let character = config.character_clocks().expect("a divisor");
+        let access = character / accesses;
+        let budget = config.handler_budget(FifoSize::Sixteen, access, 0).expect("a divisor").expect("some time");
+        let late = if is_at_once { 0 } else { budget - access };
+        let seen = visits::<16>(level, Pace { character, access }, LSR::empty(), late);
+        assert!(seen.lost > 0 && seen.has_limit, "{level:?}, {accesses}");
+        assert!(seen.others > if accesses == 4 { 60 } else { 30 }, "{level:?}, {accesses}: {}", seen.others);
     }
 }
 

@@ -40,7 +40,7 @@ fn started(receive: usize, noted: usize) -> Ring {
     assert_eq!(uart.init(config), Ok(()));
     match Uart16550Ring::new(Global::heap(), uart, 16, receive) {
         Ok(ring) => ring,
-        Err((_uart, cause)) => panic!("{cause}"),
+        Err(refused) => panic!("{refused}"),
     }
 }
 
@@ -197,7 +197,7 @@ fn notes_are_refused_as_rings_are() {
     for capacity in [0, MAX_CAPACITY + 1] {
         let chip = LiveChip::new(Chip::Uart16550A, CHAR_TICKS, WIRE_ROOM).expect("in range");
         let refused = ErrorNotes::new(Global::heap(), Live(chip), capacity);
-        assert!(matches!(refused, Err((_, RingError::BadCapacity))));
+        assert!(matches!(refused, Err(refused) if refused.cause == RingError::BadCapacity));
     }
 }
 

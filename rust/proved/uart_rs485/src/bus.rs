@@ -5,6 +5,7 @@ use crate::errors::BusyError;
 use uart_16550::Uart16550;
 use uart_16550::backend::Backend;
 use uart_16550::embedded_io::Write;
+use uart_ring::Refused;
 use uart_spec::StalledError;
 use uart_spec::registers::LSR;
 
@@ -82,10 +83,7 @@ impl<B: Backend> HalfDuplex<B> {
     /// # fn main() {}
     /// # use facade::{ring::{self, MAX_INTERRUPTS}, rs485::*};
     /// # fn example(uart: Uart16550<Device>, direction: Direction) -> Outcome<()> {
-    /// let mut bus = match HalfDuplex::new(uart, direction) {
-    ///     Ok(bus) => bus,
-    ///     Err((_uart, busy)) => return Err(busy.into()),
-    /// };
+    /// let mut bus = HalfDuplex::new(uart, direction)?;
     /// # Ok(()) }
     /// ```
     ///
@@ -102,7 +100,10 @@ impl<B: Backend> HalfDuplex<B> {
     /// ```
     ///
     /// </details>
-    pub fn new(uart: Uart16550<B>, direction: Direction) -> Result<Self, (Uart16550<B>, BusyError)> {
+    pub fn new(
+        uart: Uart16550<B>,
+        direction: Direction,
+    ) -> Result<Self, Refused<Uart16550<B>, BusyError>> {
         // Nothing is known of the direction. If it is to send, it may be taken back only while the
         // transmitter is empty.
         let mut bus = HalfDuplex {
@@ -112,7 +113,10 @@ impl<B: Backend> HalfDuplex<B> {
         };
         match bus.try_finish() {
             Ok(()) => Ok(bus),
-            Err(busy) => Err((bus.uart, busy)),
+            Err(cause) => {
+                let given = bus.uart;
+                Err(Refused { given, cause })
+            }
         }
     }
 

@@ -35,6 +35,7 @@ impl std::fmt::Display for NotSendingError {
 impl std::error::Error for NotSendingError {}
 
 /// Why not all of the echo was heard.
+#[non_exhaustive]
 #[derive(Clone, Copy, Debug, PartialEq, Eq, Hash)]
 pub enum EchoError {
     /// Another byte was heard than was sent: two ends sent at once, or the bus is disturbed.
@@ -73,6 +74,7 @@ impl std::fmt::Display for EchoError {
 impl std::error::Error for EchoError {}
 
 /// Why not all bytes were sent.
+#[non_exhaustive]
 #[derive(Clone, Debug, PartialEq, Eq, Hash)]
 pub enum SendError {
     /// The direction is not to send. Nothing was written.
@@ -88,10 +90,9 @@ impl std::fmt::Display for SendError {
             Self::NotSending => {
                 ({ (f.write_fmt(format_args!("the direction is not to send"))) })
             }
-            Self::Stalled(_0) => { ({ (f.write_fmt(format_fields!("{0}", _0))) }) }
+            Self::Stalled(_0) => {
+                ({ (f.write_fmt(format_fields!("not all bytes were sent: {0}", _0))) })
+            }
         }
     }
 }
-
-#[automatically_derived]
-impl std::error::Error for SendError {}

@@ -26,4 +26,6 @@ pub use direction::{Direction, DirectionLine};
 pub use errors::{BusyError, EchoError, NotSendingError, SendError};
 pub use rings::HalfDuplexRing;
 
+mod by_hand;
+
 pub mod proved;

@@ -142,11 +142,12 @@ pub mod directions {}
 ///
 /// ```text
 /// abbrev pub Begins : {B : Type 0} → (B → Access → B → Type 0) → Uart16550 B → Direction →
-///     Result (HalfDuplex B) (Uart16550 B × BusyError) → Type 0
+///     Result (HalfDuplex B) (Refused (Uart16550 B) BusyError) → Type 0
 /// Begins step driver direction (Ok bus) =
 ///     BusDid step (TriesToFinish {T = Unit {0}} (Ok tt)) (unknown driver direction) bus
-/// Begins step driver direction (Err (returned, e)) =
-///     BusDid step (TriesToFinish {T = Unit {0}} (Err e)) (unknown driver direction) (unknown returned direction)
+/// Begins step driver direction (Err refused) =
+///     BusDid step (TriesToFinish {T = Unit {0}} (Err refused.cause)) (unknown driver direction)
+///     (unknown refused.given direction)
 /// ```
 ///
 /// It uses [`BusDid`](crate::proved::bus#BusDid), [`TriesToFinish`](crate::proved::bus#TriesToFinish); `unknown` of this file.
@@ -310,6 +311,19 @@ pub mod bus {}
 ///
 /// It uses [`OnRings`](crate::proved::rings#OnRings), [`Saving`](uart_16550::proved::driver#Saving), [`turned`](crate::proved::directions#turned); `RingBusDoing`, `OfDriver`, `rings_with_sends` of this file; `Modifies` of `crates/uart_16550/specs/Grammar.antt`; `unlooped` of `crates/uart_16550/specs/Frame.antt`.
 ///
+/// <span id="RingLooks"></span>
+///
+/// # `RingLooks`
+///
+/// A look at LSR shows that the transmitter is empty, or that it is not.
+///
+/// ```text
+/// abbrev pub RingLooks : (idle : Bool) → RingBusDoing
+/// RingLooks idle = OnRings (OfDriver (Saving (ShowsIdle idle))) same
+/// ```
+///
+/// It uses [`OnRings`](crate::proved::rings#OnRings), [`Saving`](uart_16550::proved::driver#Saving), [`ShowsIdle`](uart_16550::proved::frame#ShowsIdle), [`same`](crate::proved::rings#same); `RingBusDoing`, `OfDriver` of this file.
+///
 /// <span id="RingTriesToFinish"></span>
 ///
 /// # `RingTriesToFinish`
@@ -323,7 +337,7 @@ pub mod bus {}
 ///     ((waiting f.rings ≢ []) × RingStays f l after) ⊎ ((waiting f.rings ≡ []) × RingLooks false f l after)
 /// ```
 ///
-/// It uses [`RingTurns`](crate::proved::rings#RingTurns); `RingBusDoing`, `RingLooks`, `RingStays` of this file; `waiting` of `crates/uart_ring/specs/Ring.antt`; `Next` of `crates/uart_16550/specs/Driver.antt`.
+/// It uses [`RingLooks`](crate::proved::rings#RingLooks), [`RingTurns`](crate::proved::rings#RingTurns); `RingBusDoing`, `RingStays` of this file; `waiting` of `crates/uart_ring/specs/Ring.antt`; `Next` of `crates/uart_16550/specs/Driver.antt`.
 ///
 /// <span id="RingBegins"></span>
 ///
@@ -333,12 +347,12 @@ pub mod bus {}
 ///
 /// ```text
 /// abbrev pub RingBegins : {B : Type 0} → (B → Access → B → Type 0) → Uart16550Ring B → Direction →
-///     Result (HalfDuplexRing B) (Uart16550Ring B × BusyError) → Type 0
+///     Result (HalfDuplexRing B) (Refused (Uart16550Ring B) BusyError) → Type 0
 /// RingBegins step ring direction (Ok bus) =
 ///     RingBusDid step (RingTriesToFinish {T = Unit {0}} (Ok tt)) (rings_unknown ring direction) bus
-/// RingBegins step ring direction (Err (returned, e)) =
-///     RingBusDid step (RingTriesToFinish {T = Unit {0}} (Err e)) (rings_unknown ring direction)
-///     (rings_unknown returned direction)
+/// RingBegins step ring direction (Err refused) =
+///     RingBusDid step (RingTriesToFinish {T = Unit {0}} (Err refused.cause)) (rings_unknown ring direction)
+///     (rings_unknown refused.given direction)
 /// ```
 ///
 /// It uses [`RingBusDid`](crate::proved::rings#RingBusDid), [`RingTriesToFinish`](crate::proved::rings#RingTriesToFinish); `rings_unknown` of this file.
@@ -356,5 +370,30 @@ pub mod bus {}
 /// ```
 ///
 /// It uses [`OnRings`](crate::proved::rings#OnRings), [`Queues`](uart_ring::proved::transmit#Queues), [`same`](crate::proved::rings#same); `RingBusDoing`, `RingStays` of this file.
-#[doc(alias("rings_of", "ring_bus_fields", "RingBusDid", "same", "OnRings", "RingTurns", "RingTriesToFinish", "RingBegins", "RingQueues"))]
+///
+/// <span id="rings_receiving"></span>
+///
+/// # `rings_receiving`
+///
+/// Rings at a bus that receives.
+///
+/// ```text
+/// abbrev pub rings_receiving : {B : Type 0} → Uart16550Ring B → Direction → HalfDuplexRing B
+/// rings_receiving ring direction = record { ring = ring; direction = direction; is_sending = false }
+/// ```
+///
+/// <span id="RingGivesUp"></span>
+///
+/// # `RingGivesUp`
+///
+/// `give_up`: a `take_line` of the rings, the transceiver is switched to receive, whatever LSR shows, and the bytes of the transmit ring are dropped.
+///
+/// ```text
+/// abbrev pub RingGivesUp : (status : ℕ) → RingBusDoing
+/// RingGivesUp status f l after = (dropped : ℕ)
+///     × Next (Next (OnRings (TakesLine status) same) (RingTurns false)) (OnRings (ClearsTransmit dropped) same) f l after
+/// ```
+///
+/// It uses [`OnRings`](crate::proved::rings#OnRings), [`TakesLine`](uart_ring::proved::status#TakesLine), [`same`](crate::proved::rings#same), [`RingTurns`](crate::proved::rings#RingTurns), [`ClearsTransmit`](uart_ring::proved::transmit#ClearsTransmit); `RingBusDoing` of this file; `Next` of `crates/uart_16550/specs/Driver.antt`.
+#[doc(alias("rings_of", "ring_bus_fields", "RingBusDid", "same", "OnRings", "RingTurns", "RingLooks", "RingTriesToFinish", "RingBegins", "RingQueues", "rings_receiving", "RingGivesUp"))]
 pub mod rings {}

@@ -3,8 +3,9 @@
 use crate::direction::Direction;
 use crate::errors::{BusyError, NotSendingError};
 use uart_16550::backend::Backend;
-use uart_ring::{Handled, Uart16550Ring};
-use uart_spec::registers::LSR;
+use uart_ring::{ErrorNotes, Handled, Refused, StuckError, Uart16550Ring, UnnotedError};
+use uart_spec::Received;
+use uart_spec::registers::{IER, LSR};
 
 /// Rings at a bus on which one end at a time may send, as RS-485 with two wires.
 ///
@@ -64,10 +65,7 @@ impl<B: Backend> HalfDuplexRing<B> {
     /// # fn main() {}
     /// # use facade::{ring::{self, MAX_INTERRUPTS}, rs485::*};
     /// # fn example(ring: ring::Uart16550Ring<Device>, direction: Direction) -> Outcome<()> {
-    /// let mut bus = match HalfDuplexRing::new(ring, direction) {
-    ///     Ok(bus) => bus,
-    ///     Err((_ring, busy)) => return Err(busy.into()),
-    /// };
+    /// let mut bus = HalfDuplexRing::new(ring, direction)?;
     /// # Ok(()) }
     /// ```
     ///
@@ -87,7 +85,7 @@ impl<B: Backend> HalfDuplexRing<B> {
     pub fn new(
         ring: Uart16550Ring<B>,
         direction: Direction,
-    ) -> Result<Self, (Uart16550Ring<B>, BusyError)> {
+    ) -> Result<Self, Refused<Uart16550Ring<B>, BusyError>> {
         let mut bus = HalfDuplexRing {
             ring,
             direction,
@@ -95,7 +93,10 @@ impl<B: Backend> HalfDuplexRing<B> {
         };
         match bus.try_finish() {
             Ok(()) => Ok(bus),
-            Err(busy) => Err((bus.ring, busy)),
+            Err(cause) => {
+                let given = bus.ring;
+                Err(Refused { given, cause })
+            }
         }
     }
 
@@ -246,7 +247,7 @@ impl<B: Backend> HalfDuplexRing<B> {
     ///
     /// - [`RingBusDid`](crate::proved::rings#RingBusDid) `B.step (OnRings (Handles limit result) same) self.old self.new`: the call did this, on a path of the backend's steps.
     ///   - [`OnRings`](crate::proved::rings#OnRings): the rings do this, and of the other fields only this changes.
-    ///   - [`Handles`](uart_ring::proved::handle#Handles): as many interrupts as are pending are served, but no more than the limit. Then, unless ISR has shown that none is pending, IER is read, and written with 0 and with what was read: what is left is triggered again.
+    ///   - [`Handles`](uart_ring::proved::handle#Handles): as many interrupts as are pending are served, but no more than the limit; if a line status shows room, bytes that wait are sent behind the data that comes next. Then, unless ISR has shown that none is pending, IER is read, and written with 0 and with what was read: what is left is triggered again.
     ///   - [`same`](crate::proved::rings#same): the fields as they are; with other rings; with this direction.
     ///
     /// <details><summary>The clauses</summary>
@@ -260,6 +261,109 @@ impl<B: Backend> HalfDuplexRing<B> {
     /// </details>
     pub fn handle(&mut self, limit: usize) -> Handled {
         self.ring.handle(limit)
+    }
+
+    /// Handles the chip's interrupt and ends a storm, as `try_handle` of the rings does.
+    ///
+    /// # Errors
+    ///
+    /// The chip is stuck, for this reason: its interrupts are off until a `restart`.
+    ///
+    /// # Examples
+    ///
+    /// ```
+    /// # include!(concat!(env!("CARGO_MANIFEST_DIR"), "/examples.rs"));
+    /// # fn main() {}
+    /// # use facade::{ring::{self, MAX_INTERRUPTS}, rs485::*};
+    /// # fn example(bus: &mut HalfDuplexRing<Device>) -> Outcome<()> {
+    /// let handled = bus.try_handle(4 * MAX_INTERRUPTS, 100)?;
+    /// # Ok(()) }
+    /// ```
+    ///
+    /// # Proved
+    ///
+    /// - [`RingBusDid`](crate::proved::rings#RingBusDid): the call did this, on a path of the backend's steps.
+    ///   - [`OnRings`](crate::proved::rings#OnRings): the rings do this, and of the other fields only this changes.
+    ///   - [`TriesToHandle`](uart_ring::proved::storm#TriesToHandle): a `handle`, whose round is counted, and after which the chip may be found stuck; or, if the chip is stuck already, all interrupts are disabled again. The error is why it is stuck.
+    ///   - [`same`](crate::proved::rings#same): the fields as they are; with other rings; with this direction.
+    ///
+    /// <details><summary>The clauses</summary>
+    ///
+    /// [How to read them](uart_spec::proved):
+    ///
+    /// ```text
+    /// ensures { RingBusDid B.step (OnRings (TriesToHandle limit rounds result) same) self.old self.new }
+    /// ```
+    ///
+    /// </details>
+    pub fn try_handle(&mut self, limit: usize, rounds: u32) -> Result<Handled, StuckError> {
+        self.ring.try_handle(limit, rounds)
+    }
+
+    /// Starts a chip again that is stuck, with these interrupts, as `restart` of the rings does:
+    /// what waits is sent.
+    ///
+    /// # Examples
+    ///
+    /// ```
+    /// # include!(concat!(env!("CARGO_MANIFEST_DIR"), "/examples.rs"));
+    /// # fn main() {}
+    /// # use facade::{ring::{self, MAX_INTERRUPTS}, rs485::*};
+    /// # fn example(bus: &mut HalfDuplexRing<Device>) -> Outcome<()> {
+    /// bus.restart(IER::DATA_READY.union(IER::RECEIVER_LINE_STATUS));
+    /// # Ok(()) }
+    /// ```
+    ///
+    /// # Proved
+    ///
+    /// - [`RingBusDid`](crate::proved::rings#RingBusDid) `B.step (OnRings (Restarts interrupts.0) same) self.old self.new`: the call did this, on a path of the backend's steps.
+    ///   - [`OnRings`](crate::proved::rings#OnRings): the rings do this, and of the other fields only this changes.
+    ///   - [`Restarts`](uart_ring::proved::storm#Restarts): these interrupts are enabled, without DATA\_READY while receiving is paused; the chip is not stuck any more, and sending resumes.
+    ///   - [`same`](crate::proved::rings#same): the fields as they are; with other rings; with this direction.
+    ///
+    /// <details><summary>The clauses</summary>
+    ///
+    /// [How to read them](uart_spec::proved):
+    ///
+    /// ```text
+    /// ensures { RingBusDid B.step (OnRings (Restarts interrupts.0) same) self.old self.new }
+    /// ```
+    ///
+    /// </details>
+    pub fn restart(&mut self, interrupts: IER) {
+        self.ring.restart(interrupts);
+    }
+
+    /// Returns whether the transmitter is empty, as `is_idle` of the driver does: reads LSR once.
+    /// Bytes that wait in the transmit ring are not in the transmitter.
+    ///
+    /// # Examples
+    ///
+    /// ```
+    /// # include!(concat!(env!("CARGO_MANIFEST_DIR"), "/examples.rs"));
+    /// # fn main() {}
+    /// # use facade::{ring::{self, MAX_INTERRUPTS}, rs485::*};
+    /// # fn example(bus: &mut HalfDuplexRing<Device>) -> Outcome<()> {
+    /// let is_sent = bus.inner().transmit_len() == 0 && bus.is_idle();
+    /// # Ok(()) }
+    /// ```
+    ///
+    /// # Proved
+    ///
+    /// - [`RingBusDid`](crate::proved::rings#RingBusDid) `B.step (RingLooks result) self.old self.new`: the call did this, on a path of the backend's steps.
+    ///   - [`RingLooks`](crate::proved::rings#RingLooks): a look at LSR shows that the transmitter is empty, or that it is not.
+    ///
+    /// <details><summary>The clauses</summary>
+    ///
+    /// [How to read them](uart_spec::proved):
+    ///
+    /// ```text
+    /// ensures { RingBusDid B.step (RingLooks result) self.old self.new }
+    /// ```
+    ///
+    /// </details>
+    pub fn is_idle(&mut self) -> bool {
+        self.ring.inner_mut().is_idle()
     }
 
     /// Takes received bytes from the receive ring, as `take` of the rings does.
@@ -299,6 +403,74 @@ impl<B: Backend> HalfDuplexRing<B> {
         self.ring.take(slots)
     }
 
+    /// Drops the bytes of the transmit ring, as `clear_transmit` of the rings does, and returns how
+    /// many. What is in the chip still goes out. Makes no access.
+    ///
+    /// # Examples
+    ///
+    /// ```
+    /// # include!(concat!(env!("CARGO_MANIFEST_DIR"), "/examples.rs"));
+    /// # fn main() {}
+    /// # use facade::{ring::{self, MAX_INTERRUPTS}, rs485::*};
+    /// # fn example(bus: &mut HalfDuplexRing<Device>) -> Outcome<()> {
+    /// let dropped = bus.clear_transmit();
+    /// # Ok(()) }
+    /// ```
+    ///
+    /// # Proved
+    ///
+    /// - [`RingBusDid`](crate::proved::rings#RingBusDid) `B.step (OnRings (ClearsTransmit result) same) self.old self.new`: the call did this, on a path of the backend's steps.
+    ///   - [`OnRings`](crate::proved::rings#OnRings): the rings do this, and of the other fields only this changes.
+    ///   - [`ClearsTransmit`](uart_ring::proved::transmit#ClearsTransmit): the transmit ring is emptied without an access, and the result is how many bytes it had.
+    ///   - [`same`](crate::proved::rings#same): the fields as they are; with other rings; with this direction.
+    ///
+    /// <details><summary>The clauses</summary>
+    ///
+    /// [How to read them](uart_spec::proved):
+    ///
+    /// ```text
+    /// ensures { RingBusDid B.step (OnRings (ClearsTransmit result) same) self.old self.new }
+    /// ```
+    ///
+    /// </details>
+    pub fn clear_transmit(&mut self) -> usize {
+        self.ring.clear_transmit()
+    }
+
+    /// Drops the bytes of the receive ring, as `clear_receive` of the rings does, and returns how
+    /// many: an echo that nobody compares, or what was heard before a question.
+    ///
+    /// # Examples
+    ///
+    /// ```
+    /// # include!(concat!(env!("CARGO_MANIFEST_DIR"), "/examples.rs"));
+    /// # fn main() {}
+    /// # use facade::{ring::{self, MAX_INTERRUPTS}, rs485::*};
+    /// # fn example(bus: &mut HalfDuplexRing<Device>) -> Outcome<()> {
+    /// let dropped = bus.clear_receive();
+    /// # Ok(()) }
+    /// ```
+    ///
+    /// # Proved
+    ///
+    /// - [`RingBusDid`](crate::proved::rings#RingBusDid) `B.step (OnRings (ClearsReceive result) same) self.old self.new`: the call did this, on a path of the backend's steps.
+    ///   - [`OnRings`](crate::proved::rings#OnRings): the rings do this, and of the other fields only this changes.
+    ///   - [`ClearsReceive`](uart_ring::proved::receive#ClearsReceive): the receive ring is emptied, and the result is how many bytes it had; if it had any, a pause of receiving ends.
+    ///   - [`same`](crate::proved::rings#same): the fields as they are; with other rings; with this direction.
+    ///
+    /// <details><summary>The clauses</summary>
+    ///
+    /// [How to read them](uart_spec::proved):
+    ///
+    /// ```text
+    /// ensures { RingBusDid B.step (OnRings (ClearsReceive result) same) self.old self.new }
+    /// ```
+    ///
+    /// </details>
+    pub fn clear_receive(&mut self) -> usize {
+        self.ring.clear_receive()
+    }
+
     /// Reads LSR, and returns it with the line errors that were noted, as `take_line` of the rings
     /// does.
     ///
@@ -331,6 +503,54 @@ impl<B: Backend> HalfDuplexRing<B> {
     /// </details>
     pub fn take_line(&mut self) -> LSR {
         self.ring.take_line()
+    }
+
+    /// Gives the bus back whatever the transmitter does, for one that stays busy: reads LSR and
+    /// MCR, and writes that with the line so that the transceiver receives. Then drops the bytes of
+    /// the transmit ring, which would else go out when an interrupt is served.
+    ///
+    /// Returns the rings, and LSR as their `take_line` does, which says what may be cut off beside
+    /// the bytes that waited. With `TRANSMITTER_EMPTY` it is nothing; else with `THR_EMPTY` the
+    /// last byte; else as many of the last bytes as the FIFO holds, and one more. What is left in
+    /// the chip goes on to leave it, and nobody hears it: `new` takes the rings once that is over.
+    ///
+    /// Does not wait.
+    ///
+    /// # Examples
+    ///
+    /// ```
+    /// # include!(concat!(env!("CARGO_MANIFEST_DIR"), "/examples.rs"));
+    /// # fn main() {}
+    /// # use facade::{ring::{self, MAX_INTERRUPTS}, rs485::*};
+    /// # fn example(bus: HalfDuplexRing<Device>) -> Outcome<()> {
+    /// let (ring, status) = bus.give_up();
+    /// let is_cut_off = !status.contains(LSR::TRANSMITTER_EMPTY);
+    /// # Ok(()) }
+    /// ```
+    ///
+    /// # Proved
+    ///
+    /// - [`RingBusDid`](crate::proved::rings#RingBusDid): the call did this, on a path of the backend's steps.
+    ///   - [`RingGivesUp`](crate::proved::rings#RingGivesUp): a `take_line` of the rings, the transceiver is switched to receive, whatever LSR shows, and the bytes of the transmit ring are dropped.
+    ///   - [`rings_receiving`](crate::proved::rings#rings_receiving): rings at a bus that receives.
+    ///
+    /// <details><summary>The clauses</summary>
+    ///
+    /// [How to read them](uart_spec::proved):
+    ///
+    /// ```text
+    /// ensures { RingBusDid B.step (RingGivesUp result.1.0) self (rings_receiving result.0 self.direction) }
+    /// ```
+    ///
+    /// </details>
+    #[must_use]
+    pub fn give_up(self) -> (Uart16550Ring<B>, LSR) {
+        let mut bus = self;
+        // The look is before the switch: what it shows to be sent was sent in time.
+        let status = bus.take_line();
+        bus.turn(false);
+        bus.clear_transmit();
+        (bus.ring, status)
     }
 
     /// Returns whether the direction is to send. Makes no access.
@@ -425,5 +645,65 @@ impl<B: Backend> HalfDuplexRing<B> {
     #[must_use]
     pub fn into_inner(self) -> Uart16550Ring<B> {
         self.ring
+    }
+}
+
+impl<B: Backend> HalfDuplexRing<ErrorNotes<B>> {
+    /// Takes received bytes from the receive ring, each with its errors, as `take_with_errors` of
+    /// the rings does.
+    ///
+    /// # Errors
+    ///
+    /// `UnnotedError` if fewer errors are noted than bytes are in the receive ring. Then nothing is
+    /// done.
+    ///
+    /// # Examples
+    ///
+    /// ```
+    /// # include!(concat!(env!("CARGO_MANIFEST_DIR"), "/examples.rs"));
+    /// # fn main() {}
+    /// # use facade::{ring::{self, MAX_INTERRUPTS}, rs485::*};
+    /// # fn example(bus: &mut HalfDuplexRing<ring::ErrorNotes<Device>>, mut slots: [Received; 2]) -> Outcome<()> {
+    /// let count = bus.take_with_errors(&mut slots)?;
+    /// # Ok(()) }
+    /// ```
+    ///
+    /// # Proved
+    ///
+    /// - *did*: if it returns `Ok count`: [`RingBusDid`](crate::proved::rings#RingBusDid): the call did this, on a path of the backend's steps.
+    ///   - [`NotesErrors`](uart_ring::proved::notes#NotesErrors): the access is made, and noted.
+    ///   - [`OnRings`](crate::proved::rings#OnRings): the rings do this, and of the other fields only this changes.
+    ///   - [`TakesBytes`](uart_ring::proved::receive#TakesBytes): the bytes are from the front of the receive ring, as many as there are slots and bytes; if there are any, a pause of receiving ends.
+    ///   - [`bytes_of`](uart_ring::proved::notes#bytes_of): the bytes of what was received.
+    ///   - [`same`](crate::proved::rings#same): the fields as they are; with other rings; with this direction.
+    /// - *count*: if it returns `Ok count`: `count` is `min (length slots.old) (length (ring_fields (rings_of self.old)).receive.items)`.
+    ///   - [`ring_fields`](uart_ring::proved::ring#ring_fields): what these rings hold beside their backend.
+    ///   - [`rings_of`](crate::proved::rings#rings_of): the rings at a bus.
+    /// - *errors*: if it returns `Ok count`: `errors_of (take count slots.new) ≡ take count (errors_in (rings_of self.old))`.
+    ///   - [`errors_of`](uart_ring::proved::notes#errors_of): the errors of what was received.
+    ///   - [`errors_in`](uart_ring::proved::notes#errors_in): the errors of the bytes in the receive ring, as the backend has noted them.
+    /// - *rest*: if it returns `Ok count`: `drop count slots.new ≡ drop count slots.old`.
+    /// - *noted*: if `unnoted_in (rings_of self.old) ≡ 0`: `is_ok result ≡ true`.
+    ///   - [`unnoted_in`](uart_ring::proved::notes#unnoted_in): how many bytes of the receive ring have no note in the backend.
+    /// - *all_noted*: if it returns `Ok count`: `unnoted_in (rings_of self.old) ≡ 0`.
+    /// - *refused*: if it returns `Err error`: `0 < error.bytes`, and `error.bytes ≡ unnoted_in (rings_of self.old)`, and nothing changes, and `slots` stays as it was.
+    ///
+    /// <details><summary>The clauses</summary>
+    ///
+    /// [How to read them](uart_spec::proved):
+    ///
+    /// ```text
+    /// ensures did { IfOk result (λ count. RingBusDid (NotesErrors B.step) (OnRings (TakesBytes (length slots.old) (bytes_of (take count slots.new))) same) self.old self.new) }
+    /// ensures count { IfOk result (λ count. count ≡ min (length slots.old) (length (ring_fields (rings_of self.old)).receive.items)) }
+    /// ensures errors { IfOk result (λ count. errors_of (take count slots.new) ≡ take count (errors_in (rings_of self.old))) }
+    /// ensures rest { IfOk result (λ count. drop count slots.new ≡ drop count slots.old) }
+    /// ensures noted { unnoted_in (rings_of self.old) ≡ 0 → is_ok result ≡ true }
+    /// ensures all_noted { IfOk result (λ count. unnoted_in (rings_of self.old) ≡ 0) }
+    /// ensures refused { IfErr result (λ error. (0 < error.bytes) × (error.bytes ≡ unnoted_in (rings_of self.old)) × (self.new ≡ self.old) × (slots.new ≡ slots.old)) }
+    /// ```
+    ///
+    /// </details>
+    pub fn take_with_errors(&mut self, slots: &mut [Received]) -> Result<usize, UnnotedError> {
+        self.ring.take_with_errors(slots)
     }
 }

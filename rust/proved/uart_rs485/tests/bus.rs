@@ -102,7 +102,7 @@ fn driver(bus: Bus) -> Uart16550<Bus> {
 fn half_duplex(bus: Bus) -> HalfDuplex<Bus> {
     match HalfDuplex::new(driver(bus), DIRECTION) {
         Ok(bus) => bus,
-        Err((_uart, busy)) => panic!("{busy}"),
+        Err(refused) => panic!("{refused}"),
     }
 }
 

@@ -6,6 +6,7 @@ use proved_uart_rs485::{
 use std::num::NonZeroU64;
 use uart_16550::Uart16550;
 use uart_calls::replay::Replay;
+use uart_ring::Refused;
 use uart_spec::access::Access::{self, Read, Write};
 use uart_spec::registers::offsets::{DATA, LSR, MCR};
 use uart_spec::registers::{self, MCR as Outputs};
@@ -126,7 +127,7 @@ fn nothing_is_written_while_the_direction_is_not_to_send() {
 
 #[test]
 fn a_busy_transmitter_keeps_the_driver() {
-    let Err((mut uart, busy)) = HalfDuplex::new(driver(&[0x2a, EMPTY]), RTS) else {
+    let Err(Refused { given: mut uart, cause: busy }) = HalfDuplex::new(driver(&[0x2a, EMPTY]), RTS) else {
         panic!("the transmitter is not empty");
     };
     assert_eq!(busy, BusyError);

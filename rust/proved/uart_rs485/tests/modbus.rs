@@ -215,7 +215,7 @@ fn at_bus(end: End) -> HalfDuplex<End> {
     assert_eq!(uart.init_with(Config::DEFAULT, &setup), Ok(()));
     // No end waits longer than for an answer: a character of an echo may not come.
     uart.set_spin_limit(NonZeroU64::new(2 * TIMEOUT).expect("no zero"));
-    HalfDuplex::new(uart, DIRECTION).unwrap_or_else(|(_uart, busy)| panic!("{busy}"))
+    HalfDuplex::new(uart, DIRECTION).unwrap()
 }
 
 /// The sum at the end of each frame, its low byte first.

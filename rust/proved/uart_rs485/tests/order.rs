@@ -4,6 +4,7 @@ use proved_uart_rs485::{Direction, DirectionLine, HalfDuplex};
 use std::num::NonZeroU64;
 use uart_16550::Uart16550;
 use uart_16550::backend::Backend;
+use uart_ring::Refused;
 use uart_spec::Received;
 use uart_spec::access::Access;
 
@@ -76,7 +77,7 @@ fn whatever_is_called_and_answered() {
         };
         let mut bus = match HalfDuplex::new(uart, direction) {
             Ok(bus) => bus,
-            Err((uart, _busy)) => {
+            Err(Refused { given: uart, .. }) => {
                 assert!(matches!(uart.backend().made[..], [Access::Read(5, _)]));
                 continue;
             }

@@ -107,7 +107,7 @@ fn bus(direction: Direction, seed: u64) -> HalfDuplex<Watched> {
     let left = uart.backend_mut().random.below(256) as u8;
     uart.backend_mut().chip.write(offsets::MCR as u8, left);
     uart.backend_mut().begins = true;
-    let bus = HalfDuplex::new(uart, direction).unwrap_or_else(|(_uart, busy)| panic!("{busy}"));
+    let bus = HalfDuplex::new(uart, direction).unwrap();
     assert_eq!(bus.inner().backend().sends, Some(false));
     bus
 }
@@ -152,7 +152,7 @@ fn a_chip_in_loopback_or_with_an_open_latch_is_no_exception() {
     let left = MCR::LOOP_BACK.union(MCR::AUTO_FLOW);
     chip.write(offsets::MCR as u8, left.bits());
     uart.backend_mut().sends = None;
-    let mut bus = HalfDuplex::new(uart, direction).unwrap_or_else(|(_uart, busy)| panic!("{busy}"));
+    let mut bus = HalfDuplex::new(uart, direction).unwrap();
     bus.start_sending();
     // These go to the divisor latch, and none to the transmitter.
     assert_eq!(bus.send_bytes(b"lost"), Ok(4));

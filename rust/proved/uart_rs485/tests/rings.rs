@@ -5,7 +5,7 @@ use proved_uart_rs485::{BusyError, Direction, DirectionLine, HalfDuplexRing, Not
 use uart_16550::Uart16550;
 use uart_16550::backend::Backend;
 use uart_live::{Chip, LiveChip, WIRE_ROOM};
-use uart_ring::{MAX_INTERRUPTS, Uart16550Ring};
+use uart_ring::{MAX_INTERRUPTS, Refused, Uart16550Ring};
 use uart_spec::registers::{IER, LSR, MCR, offsets};
 use uart_spec::{Config, Setup};
 
@@ -87,7 +87,7 @@ fn rings() -> Uart16550Ring<Bus> {
 }
 
 fn at_bus(ring: Uart16550Ring<Bus>) -> HalfDuplexRing<Bus> {
-    HalfDuplexRing::new(ring, DIRECTION).unwrap_or_else(|(_ring, busy)| panic!("{busy}"))
+    HalfDuplexRing::new(ring, DIRECTION).unwrap()
 }
 
 /// Takes the device out of its bus, does this with it, and puts it back.
@@ -139,12 +139,45 @@ fn a_timer_gives_the_bus_back() {
 }
 
 #[test]
+fn rings_at_a_stuck_transmitter_are_given_up() {
+    let mut bus = at_bus(rings());
+    bus.start_sending();
+    assert_eq!(bus.queue(&[b'x'; 40]), Ok(40));
+    let mut ring = bus.into_inner();
+    ring.inner_mut().backend_mut().is_stuck = true;
+    let Err(refused) = HalfDuplexRing::new(ring, DIRECTION) else {
+        panic!("the transmitter is not empty");
+    };
+    assert_eq!(refused.cause, BusyError);
+    let mut ring = refused.given;
+    ring.inner_mut().backend_mut().is_stuck = false;
+    assert_eq!(ring.clear_transmit(), 24);
+    while !ring.inner_mut().is_idle() {}
+    let mut bus = at_bus(ring);
+    bus.start_sending();
+    assert_eq!(bus.queue(&[b'y'; 40]), Ok(40));
+    let (mut ring, status) = bus.give_up();
+    // It receives, some of the burst is still in the chip, and what waited is gone: no interrupt sends it later.
+    assert!(!ring.inner_mut().backend_mut().is_sending());
+    assert!(!status.contains(LSR::TRANSMITTER_EMPTY));
+    assert_eq!(ring.transmit_len(), 0);
+    let heard = ring.inner().backend().heard.len();
+    for _ in 0..40 * CHAR_TICKS {
+        ring.handle(MAX_INTERRUPTS);
+    }
+    assert_eq!(ring.inner().backend().heard.len(), heard);
+    assert!(ring.inner().backend().lost.len() <= 17);
+    let bus = at_bus(ring);
+    assert!(!bus.is_sending());
+}
+
+#[test]
 fn bytes_that_wait_keep_the_bus() {
     let mut ring = rings();
     ring.hold_transmit();
     assert_eq!(ring.queue(b"held"), 4);
     // Nothing is in the chip, and the ring has bytes that would go out later.
-    let Err((ring, BusyError)) = HalfDuplexRing::new(ring, DIRECTION) else {
+    let Err(Refused { given: ring, cause: BusyError }) = HalfDuplexRing::new(ring, DIRECTION) else {
         panic!("bytes wait");
     };
     assert_eq!(ring.transmit_len(), 4);
@@ -155,7 +188,7 @@ fn bytes_that_wait_keep_the_bus() {
     bus.start_sending();
     assert_eq!(bus.queue(b"x"), Ok(1));
     // The transmitter is busy: the rings come back as they are.
-    let Err((ring, BusyError)) = HalfDuplexRing::new(bus.into_inner(), DIRECTION) else {
+    let Err(Refused { given: ring, cause: BusyError }) = HalfDuplexRing::new(bus.into_inner(), DIRECTION) else {
         panic!("the transmitter is not empty");
     };
     assert_eq!(ring.transmit_len(), 0);
@@ -180,15 +213,20 @@ fn whatever_rings_at_a_bus_are_asked() {
     for _ in 0..100 {
         let mut bus = at_bus(rings());
         let mut sent = Vec::new();
-        for step in 0..300_u16 {
-            match random.below(8) {
-                0 => bus.start_sending(),
-                1 | 2 => given_back += usize::from(bus.try_finish().is_ok()),
-                3 | 4 => {
+        for step in 0..600_u16 {
+            match random.below(16) {
+                0 | 1 => bus.start_sending(),
+                2 | 3 => given_back += usize::from(bus.try_finish().is_ok()),
+                4 | 5 => {
                     bus.handle(1 + random.below(8) as usize);
                 }
-                5 => drop(bus.take(&mut [0; 4])),
-                6 => drop(bus.take_line()),
+                6 | 7 => assert!(bus.try_handle(1 + random.below(8) as usize, 100).is_ok()),
+                8 => drop(bus.take(&mut [0; 4])),
+                9 => drop(bus.take_line()),
+                10 => drop(bus.is_idle()),
+                11 => drop(bus.clear_receive()),
+                12 => bus.restart(IER::DATA_READY | IER::RECEIVER_LINE_STATUS),
+                13 if random.below(8) == 0 => sent.truncate(sent.len() - bus.clear_transmit()),
                 _ => {
                     let bytes = [step as u8; 30];
                     if let Ok(count) = bus.queue(&bytes[..random.below(30) as usize]) {
@@ -210,5 +248,5 @@ fn whatever_rings_at_a_bus_are_asked() {
         all += sent.len();
     }
     // The runs do what they are for.
-    assert!(all > 5_000 && given_back > 500, "{all} {given_back}");
+    assert!(all > 5_000 && given_back > 200, "{all} {given_back}");
 }

@@ -18,13 +18,10 @@ fn run_call(uart: &mut Uart16550Tty<Device16550>, call: &Call) -> Answer {
 /// Makes the calls in turn, and stores the answer of each in its slot. Never fails, and allocates
 /// no memory.
 ///
-/// A *session* begins in a ready state: DLAB and loopback are off, the driver knows whether the
-/// FIFO is on, and takes it for no larger than it is, as a driver does that was told no size. It
-/// goes on up to the next `Init`, `InitWith`, `Restore` or `TestLoopback`, a `Quiesce` that writes
-/// FCR, a `SetBreak` that begins a break, or a call that sets the frame. It goes on through a call
-/// that writes MCR if it began with a wired machine, whose modem lines are its inputs. A new
-/// machine is wired, and so is one after an `Init` or an `InitWith` that succeeds, and every call
-/// keeps that. In each session
+/// A *session* begins in a ready state, and goes on up to a call that ends it: `docs/PROVED.md` of
+/// the repository says which states and calls these are. A new machine is wired, so its modem lines
+/// are its inputs; so is one after an `Init` or an `InitWith` that succeeds, and every call keeps
+/// that. In each session
 ///
 /// - the wire and the transmitter grow by exactly the bytes that sends reported;
 /// - no data write meets a full transmitter;

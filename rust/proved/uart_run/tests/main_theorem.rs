@@ -1,5 +1,10 @@
 //! What the page of what is proved says of sessions, of random runs: chips of each size and kind, whatever happens before each access, and
-//! each call of the driver in any order. Where the page has a session begin or end it begins or ends here.
+//! each call of the driver in any order. Where the page has a session begin or end it begins or ends here. Beside the chip runs the port
+//! that driver and chip are said to be.
+
+mod port;
+
+use port::{Beside, Port, Step, Wrong};
 
 use geesetrunk_kit::alloc::Global;
 use uart_16550::backend::Backend;
@@ -64,10 +69,14 @@ struct World {
     /// The modem lines, and which have changed since somebody asked: of RI, its trailing edge.
     inputs: MSR,
     changed: MSR,
+    /// The port that runs beside the chip in a session, what it does wrong, and how often it was found not to be what the chip is.
+    port: Option<Beside>,
+    wrong: Option<Wrong>,
+    faults: usize,
 }
 
 impl World {
-    fn new(number: u64) -> Self {
+    fn new(number: u64, wrong: Option<Wrong>) -> Self {
         let mut random = Random(number.wrapping_mul(0x9e37_79b9_7f4a_7c15) | 1);
         let cuts = random.is_one_in(3);
         let (ticks, wire) = (1 + random.below(6) as u16, random.pick(&[40, 400, 4_000]));
@@ -101,12 +110,15 @@ impl World {
             arrived: Vec::new(),
             inputs: MSR::empty(),
             changed: MSR::empty(),
+            port: None,
+            wrong,
+            faults: 0,
         }
     }
 
     /// A chip of data that somebody made by hand: its modem lines are not its inputs. It has no journal of arrivals, so nothing comes.
-    fn unwired(number: u64) -> Self {
-        let mut world = Self::new(number);
+    fn unwired(number: u64, wrong: Option<Wrong>) -> Self {
+        let mut world = Self::new(number, wrong);
         let heap = Global::heap();
         let chip = Uart::new(heap, Chip::Uart16550A, 3, 400, 0, false).expect("memory");
         let mut data = chip.data();
@@ -144,6 +156,7 @@ impl World {
                     };
                     let kept = self.cut(byte);
                     self.arrived.push((kept, errors));
+                    self.step(Step::Comes(self.as_port_has_it(byte, kept)));
                     self.chip.perform(Event::Arrive {
                         byte,
                         errors: errors.bits(),
@@ -157,6 +170,46 @@ impl World {
                 }
                 _ => self.chip.tick(),
             }
+        }
+    }
+
+    /// The port takes a step. One that it may not take is a fault.
+    fn step(&mut self, step: Step) {
+        let may = self.port.as_mut().is_none_or(|port| port.takes(step));
+        self.compares(may);
+    }
+
+    /// Counts a fault, which ends the port.
+    fn compares(&mut self, is_right: bool) {
+        if !is_right {
+            self.faults += 1;
+            self.port = None;
+        }
+    }
+
+    /// A byte as the port has it.
+    fn as_port_has_it(&self, byte: u8, cut: u8) -> u8 {
+        if self.wrong == Some(Wrong::CutsNothing) {
+            byte
+        } else {
+            cut
+        }
+    }
+
+    /// The overrun flag, where it can be seen without a look that clears it: the data of a chip are those of FIFOs of 16.
+    fn is_overrun(&self) -> Option<bool> {
+        let few = self.waiting().len() <= 16 && self.chip.transmitter().held_len() <= 16;
+        few.then(|| self.chip.data().receiver.is_overrun)
+    }
+
+    /// The port that the chip is.
+    fn as_port(&self, lost: bool) -> Port {
+        Port {
+            out: self.out(),
+            waiting: self.waiting(),
+            lost,
+            fifo: self.chip.fifo(),
+            room: self.size().unwrap_or(1),
         }
     }
 
@@ -200,12 +253,22 @@ impl World {
 impl Backend for World {
     fn read(&mut self, register_offset: u8) -> u8 {
         self.happens();
-        self.chip.read(register_offset)
+        let is_data = register_offset == offsets::DATA as u8 && !self.chip.is_dlab_set();
+        let value = self.chip.read(register_offset);
+        if is_data {
+            self.step(Step::Receives(value));
+        }
+        value
     }
 
     fn write(&mut self, register_offset: u8, value: u8) {
         self.happens();
+        let is_data = register_offset == offsets::DATA as u8 && !self.chip.is_dlab_set();
+        let cut = self.cut(value);
         self.chip.write(register_offset, value);
+        if is_data {
+            self.step(Step::Sends(self.as_port_has_it(value, cut)));
+        }
     }
 }
 
@@ -671,6 +734,28 @@ impl Began {
     }
 }
 
+/// Compares the port with the one that the state is, behind a call of a session. It begins where none runs: what was not told is known
+/// there from the chip, and where the chip does not show it from the port.
+fn compare(driver: &mut Uart16550<World>, made: &Made, did: &Did) -> bool {
+    let saved = driver.state().saved_lsr.contains(LSR::OVERRUN_ERROR);
+    let world = driver.backend_mut();
+    if let (Made::Call(Call::Lsr), Some(value)) = (made, did.register) {
+        let overrun = LSR::from_bits_retain(value).contains(LSR::OVERRUN_ERROR);
+        world.step(Step::Tells(overrun));
+    }
+    let saved = saved && world.wrong != Some(Wrong::ForgetsWhatIsSaved);
+    let shown = world.is_overrun().map(|is_overrun| is_overrun || saved);
+    let Some(mut port) = world.port.take() else {
+        world.port = shown.map(|lost| Beside::new(world.as_port(lost), world.wrong));
+        return false;
+    };
+    let state = world.as_port(shown.unwrap_or(port.has_lost()));
+    let is_right = port.is(&state, &did.received);
+    world.port = Some(port);
+    world.compares(is_right);
+    true
+}
+
 /// How often something was tried.
 #[derive(Default, Debug)]
 struct Tried {
@@ -681,6 +766,8 @@ struct Tried {
     sent: usize,
     received: usize,
     resized: usize,
+    compared: usize,
+    faults: usize,
 }
 
 /// Leaves a chip as a program before ours may have left it.
@@ -695,12 +782,12 @@ fn left_by_others(driver: &mut Uart16550<World>) {
 }
 
 /// Makes calls over a machine, with a session wherever the page says that one begins.
-fn run_machine(number: u64, tried: &mut Tried) {
+fn run_machine(number: u64, wrong: Option<Wrong>, tried: &mut Tried) {
     let mut is_wired = !number.is_multiple_of(5);
     let mut world = if is_wired {
-        World::new(number)
+        World::new(number, wrong)
     } else {
-        World::unwired(number)
+        World::unwired(number, wrong)
     };
     let is_left = is_wired && world.random.is_one_in(3);
     let size = world
@@ -749,6 +836,9 @@ fn run_machine(number: u64, tried: &mut Tried) {
             continue;
         }
         session = session.filter(|_| goes_on);
+        if session.is_none() && wrong != Some(Wrong::OutlivesSessions) {
+            uart.inner_mut().backend_mut().port = None;
+        }
         let size = uart.inner().backend().size();
         let did = make(&mut uart, &made);
         tried.calls += 1;
@@ -773,16 +863,20 @@ fn run_machine(number: u64, tried: &mut Tried) {
         if let Some(began) = &mut session {
             tried.sent += did.sent.len();
             tried.received += did.received.len();
-            began.sent.extend(did.sent);
-            began.received.extend(did.received);
+            began.sent.extend(&did.sent);
+            began.received.extend(&did.received);
             began.check(driver, &made, did.register);
         } else if may_begin(driver) {
             tried.sessions += 1;
             tried.wired += usize::from(is_wired);
             session = Some(Began::now(driver, is_wired));
         }
+        if session.is_some() {
+            tried.compared += usize::from(compare(driver, &made, &did));
+        }
     }
     let world = uart.inner().backend();
+    tried.faults += world.faults;
     tried.lost += world.marked(ArrivalMark::Dropped).len();
     tried.resized += usize::from(world.size() == Some(64));
 }
@@ -791,11 +885,24 @@ fn run_machine(number: u64, tried: &mut Tried) {
 fn what_is_said_of_sessions_holds_of_random_runs() {
     let mut tried = Tried::default();
     for number in 1..=MACHINES {
-        run_machine(number, &mut tried);
+        run_machine(number, None, &mut tried);
     }
     println!("{tried:?}");
-    assert!(tried.sessions > 2_000 && tried.wired < tried.sessions);
+    assert_eq!(tried.faults, 0, "driver and chip are not the port");
+    assert!(tried.sessions > 2_000 && tried.wired < tried.sessions && tried.compared > 20_000);
     assert!(
         tried.sent > 20_000 && tried.received > 5_000 && tried.lost > 2_000 && tried.resized > 20
     );
+}
+
+#[test]
+fn ports_that_do_something_else_are_found() {
+    for wrong in Wrong::ALL {
+        let mut tried = Tried::default();
+        let found = (1..=MACHINES).find(|&number| {
+            run_machine(number, Some(wrong), &mut tried);
+            tried.faults > 0
+        });
+        assert!(found.is_some(), "{wrong:?} is not found");
+    }
 }

@@ -503,6 +503,7 @@ impl std::fmt::Display for LoopbackError {
 }
 
 /// Why the size of the FIFOs was not found or not changed.
+#[cfg_attr(not(feature = "exhaustive"), non_exhaustive)]
 #[derive(Clone, Debug, PartialEq, Eq, Hash)]
 pub enum FifoSizeError {
     /// The FIFOs are off, or the chip has none. No access was made.

@@ -190,6 +190,15 @@ impl Config {
     /// is told first, the first byte is read four accesses after ISR. Nothing is left either if two
     /// accesses, as each byte needs, take longer than a character.
     ///
+    /// A character takes as long as this configuration says. The other end must be no faster, also
+    /// by its stop bits: an end that sends one takes less time than two, and this end sees no
+    /// difference.
+    ///
+    /// The result counts no other accesses of a visit of the handler. If one takes a quarter of a
+    /// character or more, a visit may meet each character that comes meanwhile as an interrupt of
+    /// its own, and end by its limit and not with `Idle`. Then characters are lost in spite of the
+    /// result, and at half a character even if the handler comes at once.
+    ///
     /// # Errors
     ///
     /// Those of `checked_divisor`, if there is no divisor for the baud rate.

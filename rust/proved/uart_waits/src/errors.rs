@@ -11,6 +11,8 @@ pub enum SharedError {
     /// The call came in the middle of another one, which goes on when this one has returned. Or the
     /// kernel's section let two in.
     InUse,
+    /// At a bus of two wires the direction is not to send. Nothing was queued.
+    NotSending,
     /// The kernel's function said not to go on waiting, or the chip was not empty after as many
     /// looks as the driver's spin limit.
     GaveUp,
@@ -28,15 +30,17 @@ impl std::fmt::Display for SharedError {
             Self::InUse => {
                 ({ (f.write_fmt(format_args!("the rings are in use by a call that is not done"))) })
             }
+            Self::NotSending => {
+                ({ (f.write_fmt(format_args!("the direction is not to send"))) })
+            }
             Self::GaveUp => { ({ (f.write_fmt(format_args!("waiting was given up"))) }) }
-            Self::Stuck(_0) => { ({ (std::fmt::Display::fmt(_0, f)) }) }
-            Self::Unnoted(_0) => { ({ (std::fmt::Display::fmt(_0, f)) }) }
+            Self::Stuck(_0) => { ({ (f.write_fmt(format_fields!("the chip is stuck: {0}", _0))) }) }
+            Self::Unnoted(_0) => {
+                ({ (f.write_fmt(format_fields!("no bytes were taken: {0}", _0))) })
+            }
         }
     }
 }
-
-#[automatically_derived]
-impl std::error::Error for SharedError {}
 
 /// Why no rings were started.
 #[cfg_attr(not(feature = "exhaustive"), non_exhaustive)]
@@ -56,7 +60,9 @@ pub enum StartError {
 impl std::fmt::Display for StartError {
     fn fmt(&self, f: &mut std::fmt::Formatter<'_>) -> std::fmt::Result {
         match self {
-            Self::NoRings(_0) => { ({ (std::fmt::Display::fmt(_0, f)) }) }
+            Self::NoRings(_0) => {
+                ({ (f.write_fmt(format_fields!("the rings could not be made: {0}", _0))) })
+            }
             Self::Started => { ({ (f.write_fmt(format_args!("there are rings already"))) }) }
             Self::NoPlace => { ({ (f.write_fmt(format_args!("the line has no such place"))) }) }
             Self::InUse => {
@@ -65,9 +71,6 @@ impl std::fmt::Display for StartError {
         }
     }
 }
-
-#[automatically_derived]
-impl std::error::Error for StartError {}
 
 /// Why not all bytes were sent or received, and how many were.
 #[derive(Clone, Copy, Debug, PartialEq, Eq)]
@@ -88,6 +91,3 @@ impl std::fmt::Display for Unfinished {
         }
     }
 }
-
-#[automatically_derived]
-impl std::error::Error for Unfinished {}

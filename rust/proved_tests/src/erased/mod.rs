@@ -2,4 +2,3 @@
 #![allow(warnings)]
 
 mod uart_calls;
-mod uart_uses;

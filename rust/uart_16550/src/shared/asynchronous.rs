@@ -1,14 +1,13 @@
 //! Shared rings for tasks: futures that the handler wakes.
 
+use super::held::{Held, HeldWithErrors};
 use super::rings::{self, Rings};
-use super::{CriticalSection, Shared, SharedError};
+use super::{CriticalSection, SharedError, SharedRings};
 use crate::native::Received;
-use crate::native::backend::Backend;
-use crate::ring::ErrorNotes;
 use core::future::poll_fn;
 use core::task::{Context, Poll};
 
-impl<S: CriticalSection, B: Backend> Shared<S, B> {
+impl<S: CriticalSection, R: Held> SharedRings<S, R> {
     /// Takes received bytes, at least one, as [`take`](crate::ring::Uart16550Ring::take) does, and returns how many. Waits until one
     /// is there. Of no slots it returns 0 at once.
     ///
@@ -57,6 +56,7 @@ impl<S: CriticalSection, B: Backend> Shared<S, B> {
     ///
     /// # Errors
     ///
+    /// - `NotSending` at a bus whose direction is not to send.
     /// - `Stuck` if the chip is stuck, and so does not come to it.
     /// - `NoRings` if there are none, or none any more.
     /// - `InUse` if the future is polled in the middle of a call.
@@ -135,7 +135,7 @@ impl<S: CriticalSection, B: Backend> Shared<S, B> {
 }
 
 /// Rings over notes of errors.
-impl<S: CriticalSection, B: Backend> Shared<S, ErrorNotes<B>> {
+impl<S: CriticalSection, R: HeldWithErrors> SharedRings<S, R> {
     /// Does what [`read`](Self::read) does, and returns each byte with its errors, as
     /// [`take_with_errors`](crate::ring::Uart16550Ring::take_with_errors) does.
     ///

@@ -1,11 +1,10 @@
 //! Shared rings for threads that wait.
 
+use super::held::{Held, HeldWithErrors};
 use super::rings::Rings;
-use super::{CriticalSection, Shared, SharedError};
+use super::{CriticalSection, Shared, SharedError, SharedRings};
 use crate::native::Received;
-use crate::native::backend::Backend;
 use crate::native::embedded_io::{ErrorType, Read, ReadReady, Write, WriteReady};
-use crate::ring::{ErrorNotes, Uart16550Ring};
 use core::fmt;
 use uart_waits::{Awaited, Seen, Unfinished};
 
@@ -82,6 +81,7 @@ pub type Blocking<'a, S, B, W> = BlockingRings<&'a Shared<S, B>, W>;
 ///
 /// - `GaveUp` if the wait function returned false, or after those looks at the chip. Bytes that came meanwhile are in the rings.
 /// - `Stuck` if what is awaited is not there, and the chip is stuck, and so does not come to it.
+/// - `NotSending` at a bus whose direction is not to send, for a call that queues.
 /// - `NoRings` or `InUse` if the call over the rings was refused.
 ///
 /// A call that fails took, or queued, no byte.
@@ -116,7 +116,7 @@ impl<P, W> BlockingRings<P, W> {
     }
 }
 
-impl<S: CriticalSection, B: Backend> Shared<S, B> {
+impl<S: CriticalSection, R: Held> SharedRings<S, R> {
     /// Returns these rings for a thread that waits so. Makes no access.
     ///
     /// # Examples
@@ -130,7 +130,7 @@ impl<S: CriticalSection, B: Backend> Shared<S, B> {
     /// # assert_eq!(board::chip().sent, [b'x'; 5000]);
     /// # }
     /// ```
-    pub const fn blocking<W: Wait>(&self, wait: W) -> Blocking<'_, S, B, W> {
+    pub const fn blocking<W: Wait>(&self, wait: W) -> BlockingRings<&Self, W> {
         BlockingRings::new(self, wait)
     }
 }
@@ -215,9 +215,9 @@ impl<P: Rings, W: Wait> BlockingRings<P, W> {
     /// ```
     pub fn flush(&mut self) -> Result<(), SharedError> {
         self.wait_for(Awaited::EmptyTransmitRing, |ring| {
-            (ring.transmit_len() == 0).then_some(())
+            (ring.rings().transmit_len() == 0).then_some(())
         })?;
-        let limit = self.rings.with_rings(|ring| ring.inner().spin_limit())?;
+        let limit = self.rings.with_rings(|ring| ring.rings().inner().spin_limit())?;
         for _look in 0..limit.get() {
             if self.rings.is_sent()? {
                 return Ok(());
@@ -232,7 +232,7 @@ impl<P: Rings, W: Wait> BlockingRings<P, W> {
     fn wait_for<R>(
         &mut self,
         awaited: Awaited,
-        mut look: impl FnMut(&mut Uart16550Ring<P::Backend>) -> Option<R>,
+        mut look: impl FnMut(&mut P::Held) -> Option<R>,
     ) -> Result<R, SharedError> {
         loop {
             if let Some(found) = self.rings.look(&mut look)? {
@@ -249,9 +249,10 @@ fn goes_on(does: bool) -> Result<(), SharedError> {
 }
 
 /// Rings over notes of errors.
-impl<B: Backend, P: Rings<Backend = ErrorNotes<B>>, W: Wait> BlockingRings<P, W> {
-    /// Takes received bytes, at least one, each with its errors, as [`take_with_errors`](Uart16550Ring::take_with_errors) does, and
-    /// returns how many. Waits until one is there. Of no slots it returns 0 at once.
+impl<P: Rings<Held: HeldWithErrors>, W: Wait> BlockingRings<P, W> {
+    /// Takes received bytes, at least one, each with its errors, as
+    /// [`take_with_errors`](crate::ring::Uart16550Ring::take_with_errors) does, and returns how many. Waits until one is there. Of no
+    /// slots it returns 0 at once.
     ///
     /// # Errors
     ///
@@ -291,8 +292,8 @@ impl<P: Rings, W: Wait> Write for BlockingRings<P, W> {
             return Ok(0);
         }
         self.wait_for(Awaited::TransmitRoom, |ring| {
-            Some(ring.queue(buf)).filter(|count| *count > 0)
-        })
+            Some(ring.queue(buf)).filter(|queued| *queued != Ok(0))
+        })?
     }
 
     fn flush(&mut self) -> Result<(), SharedError> {
@@ -322,13 +323,13 @@ impl<P: fmt::Debug, W> fmt::Debug for BlockingRings<P, W> {
 
 impl<P: Rings, W> ReadReady for BlockingRings<P, W> {
     fn read_ready(&mut self) -> Result<bool, SharedError> {
-        self.rings.with_rings(|ring| ring.receive_len() > 0)
+        self.rings.with_rings(|ring| ring.rings().receive_len() > 0)
     }
 }
 
 impl<P: Rings, W> WriteReady for BlockingRings<P, W> {
     fn write_ready(&mut self) -> Result<bool, SharedError> {
         self.rings
-            .with_rings(|ring| Seen::of(ring).has(Awaited::TransmitRoom))
+            .with_rings(|ring| Seen::of(ring.rings()).has(Awaited::TransmitRoom))
     }
 }

@@ -1,13 +1,13 @@
 //! A value that one caller uses at a time. Whoever comes meanwhile is refused, and does not wait; a handler leaves a mark.
 //!
-//! Of this crate, this, `access.rs` and `access/ports.rs` are the files that do something `unsafe`. That one caller uses the value at a
-//! time is seen to here alone: a kernel's [`CriticalSection`](super::CriticalSection) that keeps nobody out makes calls be refused, and no
-//! two of them use the value.
+//! Of this crate, this, `access.rs` and `access/ports.rs` are the files that do something `unsafe`; `emergency.rs` passes on a promise.
+//! That one caller uses the value at a time is seen to here alone: a kernel's [`CriticalSection`](super::CriticalSection) that keeps
+//! nobody out makes calls be refused, and no two of them use the value.
 #![allow(unsafe_code)]
 
 use core::cell::UnsafeCell;
 use core::mem;
-use core::sync::atomic::{AtomicU8, Ordering};
+use core::sync::atomic::{AtomicU8, Ordering, compiler_fence};
 use uart_waits::Occupancy;
 
 pub(super) struct Exclusive<T> {
@@ -51,6 +51,17 @@ impl<T> Exclusive<T> {
         (!before.is_taken).then(|| Entered(self))
     }
 
+    /// Returns the value, whoever uses it, to be read after a panic.
+    // considered: to refuse if somebody is in. Then the lines before a panic in the middle of a call would be lost, and they tell most of
+    //   it. The value is whole at each access of the device, which is where calls stop: the queue of a ring changes behind the accesses
+    //   of a burst, and not in their middle. If a processor is stopped anywhere in a call, its number of bytes may be that of before.
+    pub(super) fn seize(&self, _stopped: AllStopped) -> &T {
+        // What a call of this thread has written is there.
+        compiler_fence(Ordering::SeqCst);
+        // SAFETY: whoever promised that all have stopped: no reference of those who are in is used any more, and nobody gets another.
+        unsafe { &*self.value.get() }
+    }
+
     // Changes the occupancy at once, and returns what it was. What was done with the value before is seen by who is let in later.
     #[inline]
     fn change(&self, change: impl Fn(Occupancy) -> Occupancy) -> Occupancy {
@@ -59,6 +70,19 @@ impl<T> Exclusive<T> {
         });
         // It is always changed.
         occupancy_of(changed.unwrap_or_else(|bits| bits))
+    }
+}
+
+/// That whoever was in a call has stopped for ever, and nobody begins one: what a panic handler knows.
+#[derive(Clone, Copy)]
+pub struct AllStopped(());
+
+impl AllStopped {
+    /// # Safety
+    ///
+    /// Of each value that is read with this: nobody who was in a call that uses it goes on, and nobody begins one.
+    pub(crate) const unsafe fn new() -> Self {
+        Self(())
     }
 }
 

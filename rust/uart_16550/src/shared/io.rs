@@ -3,7 +3,7 @@
 use super::rings::Rings;
 use super::{BlockingRings, SharedError, Wait};
 #[cfg(feature = "embedded-io-async")]
-use super::{CriticalSection, PortOfLine, Shared};
+use super::{CriticalSection, PortOfLine, SharedRings, held::Held};
 #[cfg(feature = "embedded-io-async")]
 use crate::native::backend::Backend;
 use ::embedded_io as foreign;
@@ -19,25 +19,25 @@ uart_driver::as_embedded_io! {
 }
 
 #[cfg(feature = "embedded-io-async")]
-impl<S, B> foreign::ErrorType for &Shared<S, B> {
+impl<S, R> foreign::ErrorType for &SharedRings<S, R> {
     type Error = SharedError;
 }
 
 #[cfg(feature = "embedded-io-async")]
-impl<S: CriticalSection, B: Backend> asynchronous::Read for &Shared<S, B> {
+impl<S: CriticalSection, R: Held> asynchronous::Read for &SharedRings<S, R> {
     async fn read(&mut self, buf: &mut [u8]) -> Result<usize, SharedError> {
-        Shared::read(self, buf).await
+        SharedRings::read(self, buf).await
     }
 }
 
 #[cfg(feature = "embedded-io-async")]
-impl<S: CriticalSection, B: Backend> asynchronous::Write for &Shared<S, B> {
+impl<S: CriticalSection, R: Held> asynchronous::Write for &SharedRings<S, R> {
     async fn write(&mut self, buf: &[u8]) -> Result<usize, SharedError> {
-        Shared::write(self, buf).await
+        SharedRings::write(self, buf).await
     }
 
     async fn flush(&mut self) -> Result<(), SharedError> {
-        Shared::flush(self).await
+        SharedRings::flush(self).await
     }
 }
 

@@ -1,12 +1,13 @@
 //! Ports that share one interrupt line, behind one lock.
 
-use super::exclusive::Exclusive;
+use super::exclusive::{AllStopped, Exclusive};
+use super::owed::Owed;
 use super::rings::{self, Rings, Turns};
-use super::{BlockingRings, CriticalSection, SharedError, StartError, Wait};
+use super::{BlockingRings, CriticalSection, Refused, SharedError, StartError, Wait};
 use crate::native::backend::Backend;
 use crate::native::{Received, Uart16550};
 use crate::ring::{
-    ErrorNotes, Global, Handled, LinePort, LinePorts, MAX_INTERRUPTS, StuckError, Uart16550Ring, handle_line,
+    ErrorNotes, Global, Handled, LinePort, LinePorts, StuckError, Uart16550Ring, handle_line,
 };
 use core::fmt;
 use core::future::poll_fn;
@@ -48,7 +49,7 @@ use uart_waits::{Due, Seen, Waits};
 /// # let bytes: &'static mut [u8] = Box::leak(Box::new([0; 1024 + 256]));
 /// let memory = Memory::new(bytes);
 /// let uart = Uart16550::new_with_backend(registers);
-/// LINE.start(COM1, memory.global(), uart, 1024, 256).map_err(|(_uart, error)| error)?;
+/// LINE.start(COM1, memory.global(), uart, 1024, 256)?;
 /// let interrupts = IER::DATA_READY | IER::RECEIVER_LINE_STATUS;
 /// LINE.with_port(COM1, |ring| ring.inner_mut().init(Config { interrupts, ..Config::DEFAULT }))??;
 /// assert_eq!(LINE.with_port(COM1, |ring| ring.queue(b"hello")), Ok(5));
@@ -57,6 +58,7 @@ use uart_waits::{Due, Seen, Waits};
 /// ```
 pub struct SharedLine<S, B, const N: usize> {
     section: S,
+    owed: Owed,
     places: Exclusive<Places<B, N>>,
 }
 
@@ -135,6 +137,7 @@ impl<S, B, const N: usize> SharedLine<S, B, N> {
     pub const fn new(section: S) -> Self {
         Self {
             section,
+            owed: Owed::new(),
             places: Exclusive::new(Places(
                 [const {
                     Place {
@@ -169,8 +172,8 @@ impl<S: CriticalSection, B: Backend, const N: usize> SharedLine<S, B, N> {
     /// # fn main() {
     /// # let uart = uart_16550::native::Uart16550::new_with_backend(board::Registers);
     /// # let memory = uart_16550::ring::Memory::new(Box::leak(Box::new([0; 1024 + 256])));
-    /// if let Err((_uart, cause)) = LINE.start(0, memory.global(), uart, 1024, 256) {
-    ///     panic!("no port: {cause}");
+    /// if let Err(refused) = LINE.start(0, memory.global(), uart, 1024, 256) {
+    ///     panic!("no port: {refused}");
     /// }
     /// # }
     /// ```
@@ -181,9 +184,11 @@ impl<S: CriticalSection, B: Backend, const N: usize> SharedLine<S, B, N> {
         uart: Uart16550<B>,
         tx_capacity: usize,
         rx_capacity: usize,
-    ) -> Result<(), (Uart16550<B>, StartError)> {
-        let ring = Uart16550Ring::new(global, uart, tx_capacity, rx_capacity)
-            .map_err(|(uart, cause)| (uart, StartError::NoRings(cause)))?;
+    ) -> Result<(), Refused<Uart16550<B>, StartError>> {
+        let ring = Uart16550Ring::new(global, uart, tx_capacity, rx_capacity).map_err(|refused| Refused {
+            given: refused.given,
+            cause: StartError::NoRings(refused.cause),
+        })?;
         let mut made = Some(ring);
         let entered = self.in_section(|places| match places.0.get_mut(port) {
             None => Err(StartError::NoPlace),
@@ -193,11 +198,9 @@ impl<S: CriticalSection, B: Backend, const N: usize> SharedLine<S, B, N> {
                 Ok(())
             }
         });
-        match (made, entered) {
-            (None, _) => Ok(()),
-            (Some(ring), Ok(Err(cause))) => Err((ring.into_inner(), cause)),
-            (Some(ring), _) => Err((ring.into_inner(), StartError::InUse)),
-        }
+        let Some(ring) = made else { return Ok(()) };
+        let cause = entered.ok().and_then(Result::err).unwrap_or(StartError::InUse);
+        Err(Refused { given: ring.into_inner(), cause })
     }
 
     /// Takes the rings of a port out of the line, and returns them. Makes no access.
@@ -240,8 +243,10 @@ impl<S: CriticalSection, B: Backend, const N: usize> SharedLine<S, B, N> {
     ///
     /// # Errors
     ///
-    /// `InUse` if the call came in the middle of another one, as it can where the section does not mask the interrupt. That call
-    /// handles the interrupt at its end: no edge is forgotten. That is proved (`no_handler_is_forgotten` of the crate `uart_waits`).
+    /// `InUse` if the call came in the middle of another one, as it can where the section does not mask the interrupt. It leaves a mark,
+    /// and that call handles the interrupt at its end, with this limit and number of rounds: no edge is forgotten, and a storm ends
+    /// there too. If that call goes by a panic, the mark stays until the next call. What becomes of marks is proved
+    /// (`no_handler_is_forgotten` of the crate `uart_waits`).
     ///
     /// # Examples
     ///
@@ -255,6 +260,7 @@ impl<S: CriticalSection, B: Backend, const N: usize> SharedLine<S, B, N> {
     /// # Ok(()) }
     /// ```
     pub fn handle(&self, limit: usize, rounds: u32) -> Result<bool, SharedError> {
+        self.owed.comes(limit, rounds);
         self.in_turn(true, |places| handle_line(places, limit, rounds))
     }
 
@@ -359,15 +365,17 @@ impl<S: CriticalSection, B: Backend, const N: usize> SharedLine<S, B, N> {
             let mut entered = self.places.let_in(is_handler)?;
             let result = call(entered.value());
             entered.value().add_due(&mut turns);
+            // It ends as a storm does: each round that is left unfinished counts, also if raising the line makes the next edge.
             while let Err(owed) = entered.leave() {
                 entered = owed;
-                // The chips that are left with an interrupt raise the line again. No chip is taken for stuck here: the handler counts.
-                handle_line(entered.value(), MAX_INTERRUPTS, u32::MAX);
+                let (limit, rounds) = self.owed.terms();
+                // The chips that are left with an interrupt raise the line again.
+                handle_line(entered.value(), limit, rounds);
                 entered.value().add_due(&mut turns);
             }
             Some(result)
         });
-        rings::wake(&mut turns);
+        drop(turns);
         entered.ok_or(SharedError::InUse)
     }
 }
@@ -432,7 +440,7 @@ impl<S: CriticalSection, B: Backend, const N: usize> fmt::Debug for PortOfLine<'
 }
 
 impl<S: CriticalSection, B: Backend, const N: usize> Rings for PortOfLine<'_, S, B, N> {
-    type Backend = B;
+    type Held = Uart16550Ring<B>;
 
     fn in_section<R>(
         &self,
@@ -442,6 +450,11 @@ impl<S: CriticalSection, B: Backend, const N: usize> Rings for PortOfLine<'_, S,
             let place = places.0.get_mut(self.port).ok_or(SharedError::NoRings)?;
             Ok(call(place.port.as_mut().map(|port| &mut port.ring), &mut place.waits))
         })?
+    }
+
+    fn seize(&self, stopped: AllStopped) -> Option<&Uart16550Ring<B>> {
+        let port = self.line.places.seize(stopped).0.get(self.port)?.port.as_ref()?;
+        Some(&port.ring)
     }
 }
 

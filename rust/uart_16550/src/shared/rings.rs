@@ -2,37 +2,41 @@
 //! [`SharedLine`](super::SharedLine) have in common.
 
 use super::SharedError;
+use super::exclusive::AllStopped;
+use super::held::{Held, HeldWithErrors};
 use crate::native::Received;
-use crate::native::backend::Backend;
-use crate::ring::{ErrorNotes, Uart16550Ring};
+use crate::ring::Uart16550Ring;
 use core::future::poll_fn;
 use core::task::{Context, Poll, Waker};
 use uart_waits::{Awaited, Due, Seen, Waiter, Waits};
 
 /// Rings behind a lock, with the tasks that wait at them.
 pub trait Rings {
-    /// What the driver under the rings reaches.
-    type Backend: Backend;
+    /// Rings, or rings at a bus.
+    type Held: Held;
 
     /// Calls the function in the section, with the rings, if there are some, and the tasks. Then wakes those whose turn it is.
     fn in_section<R>(
         &self,
-        call: impl FnOnce(Option<&mut Uart16550Ring<Self::Backend>>, &mut Waits<Waker>) -> R,
+        call: impl FnOnce(Option<&mut Self::Held>, &mut Waits<Waker>) -> R,
     ) -> Result<R, SharedError>;
 
+    /// Returns the rings, whoever uses them, to be read after a panic.
+    fn seize(&self, stopped: AllStopped) -> Option<&Uart16550Ring<<Self::Held as Held>::Backend>>;
+
     /// Calls the function with the rings.
-    fn with_rings<R>(&self, call: impl FnOnce(&mut Uart16550Ring<Self::Backend>) -> R) -> Result<R, SharedError> {
+    fn with_rings<R>(&self, call: impl FnOnce(&mut Self::Held) -> R) -> Result<R, SharedError> {
         self.in_section(|ring, _waits| ring.map(call).ok_or(SharedError::NoRings))?
     }
 
     /// Whether a call would not wait for this. It would not if it is refused, either.
     fn ends_wait(&self, awaited: Awaited) -> bool {
-        self.with_rings(|ring| Seen::of(ring).ends_wait(awaited)).unwrap_or(true)
+        self.with_rings(|ring| Seen::of(ring.rings()).ends_wait(awaited)).unwrap_or(true)
     }
 
     /// Looks for what is awaited. It is an error if that is not there and does not come.
-    fn look<R>(&self, look: impl FnOnce(&mut Uart16550Ring<Self::Backend>) -> Option<R>) -> Result<Option<R>, SharedError> {
-        self.with_rings(|ring| match (look(ring), ring.stuck()) {
+    fn look<R>(&self, look: impl FnOnce(&mut Self::Held) -> Option<R>) -> Result<Option<R>, SharedError> {
+        self.with_rings(|ring| match (look(ring), ring.rings().stuck()) {
             (None, Some(cause)) => Err(SharedError::Stuck(cause)),
             (found, _) => Ok(found),
         })?
@@ -40,7 +44,7 @@ pub trait Rings {
 
     /// Whether the transmit ring and the chip are empty.
     fn is_sent(&self) -> Result<bool, SharedError> {
-        self.with_rings(|ring| ring.transmit_len() == 0 && ring.inner_mut().is_idle())
+        self.with_rings(|ring| ring.rings().transmit_len() == 0 && ring.is_idle())
     }
 
     /// Looks, and registers the task if it does not find.
@@ -48,7 +52,7 @@ pub trait Rings {
         &self,
         context: &mut Context<'_>,
         awaited: Awaited,
-        look: impl FnOnce(&mut Uart16550Ring<Self::Backend>) -> Option<R>,
+        look: impl FnOnce(&mut Self::Held) -> Option<R>,
     ) -> Poll<Result<R, SharedError>> {
         match self.look(look) {
             Ok(None) => {}
@@ -87,20 +91,25 @@ pub trait Rings {
     /// As [`Shared::poll_write`](super::Shared::poll_write).
     fn poll_queue(&self, context: &mut Context<'_>, bytes: &[u8]) -> Poll<Result<usize, SharedError>> {
         self.poll_for(context, Awaited::TransmitRoom, |ring| {
-            let count = ring.queue(bytes);
-            (count > 0 || bytes.is_empty()).then_some(count)
+            let queued = ring.queue(bytes);
+            (queued != Ok(0) || bytes.is_empty()).then_some(queued)
         })
+        .map(|found| found?)
     }
 }
 
 impl<T: Rings> Rings for &T {
-    type Backend = T::Backend;
+    type Held = T::Held;
 
     fn in_section<R>(
         &self,
-        call: impl FnOnce(Option<&mut Uart16550Ring<Self::Backend>>, &mut Waits<Waker>) -> R,
+        call: impl FnOnce(Option<&mut Self::Held>, &mut Waits<Waker>) -> R,
     ) -> Result<R, SharedError> {
         T::in_section(self, call)
+    }
+
+    fn seize(&self, stopped: AllStopped) -> Option<&Uart16550Ring<<T::Held as Held>::Backend>> {
+        T::seize(self, stopped)
     }
 }
 
@@ -108,11 +117,11 @@ impl<T: Rings> Rings for &T {
 pub(super) async fn flush(rings: &impl Rings) -> Result<(), SharedError> {
     poll_fn(|context| {
         rings.poll_for(context, Awaited::EmptyTransmitRing, |ring| {
-            (ring.transmit_len() == 0).then_some(())
+            (ring.rings().transmit_len() == 0).then_some(())
         })
     })
     .await?;
-    let limit = rings.with_rings(|ring| ring.inner().spin_limit())?;
+    let limit = rings.with_rings(|ring| ring.rings().inner().spin_limit())?;
     for _look in 0..limit.get() {
         if rings.is_sent()? {
             return Ok(());
@@ -123,8 +132,8 @@ pub(super) async fn flush(rings: &impl Rings) -> Result<(), SharedError> {
 }
 
 /// As [`Shared::poll_read_with_errors`](super::Shared::poll_read_with_errors).
-pub(super) fn poll_take_with_errors<B: Backend>(
-    rings: &impl Rings<Backend = ErrorNotes<B>>,
+pub(super) fn poll_take_with_errors(
+    rings: &impl Rings<Held: HeldWithErrors>,
     context: &mut Context<'_>,
     slots: &mut [Received],
 ) -> Poll<Result<usize, SharedError>> {
@@ -151,45 +160,32 @@ async fn let_others_run() {
     .await;
 }
 
-/// The tasks of one port whose turn it is: they are woken after the section. What a waker does is its executor's, may take long, and may
-/// come back here.
-pub(super) struct Turns {
-    receive: Option<Waker>,
-    transmit: Option<Waker>,
-}
+/// A task whose turn it is. It is woken when this is dropped, so also if a call unwinds: nobody else knows of it any more, and it would
+/// wait for ever. What a waker does is its executor's, may take long, and may come back here: so this is dropped after the section.
+struct Turn(Option<Waker>);
 
-impl Turns {
-    pub(super) const NONE: Self = Self {
-        receive: None,
-        transmit: None,
-    };
-
-    // A section may serve handlers, and so look more than once. A place that was emptied before is empty now, since a task comes into
-    // one by a section of its own.
-    pub(super) fn add(&mut self, due: Due<Waker>) {
-        if let Some(waiter) = due.receive {
-            self.receive = Some(waiter.waker);
-        }
-        if let Some(waiter) = due.transmit {
-            self.transmit = Some(waiter.waker);
+impl Drop for Turn {
+    fn drop(&mut self) {
+        if let Some(waker) = self.0.take() {
+            waker.wake();
         }
     }
 }
 
-/// Wakes all of them, also if one of the wakers panics: nobody else knows of the others any more, so they would wait for ever.
-pub(super) fn wake<'a>(turns: impl IntoIterator<Item = &'a mut Turns>) {
-    let mut wakers = turns.into_iter().flat_map(|turns| [turns.receive.take(), turns.transmit.take()]).flatten();
-    drop(WakesTheRest(&mut wakers));
-}
+/// The tasks of one port whose turn it is: the one that waited for received bytes, and the one that waited at the transmit ring. If the
+/// waker of the one panics, the other one is woken too.
+pub(super) struct Turns([Turn; 2]);
 
-struct WakesTheRest<'a>(&'a mut dyn Iterator<Item = Waker>);
+impl Turns {
+    pub(super) const NONE: Self = Self([Turn(None), Turn(None)]);
 
-impl Drop for WakesTheRest<'_> {
-    fn drop(&mut self) {
-        if let Some(waker) = self.0.next() {
-            // Behind this one, or while the panic of its waker passes.
-            let _rest = WakesTheRest(self.0);
-            waker.wake();
+    // A section may serve handlers, and so look more than once. A place that was emptied before is empty now, since a task comes into
+    // one by a section of its own.
+    pub(super) fn add(&mut self, due: Due<Waker>) {
+        for (turn, waiter) in self.0.iter_mut().zip([due.receive, due.transmit]) {
+            if let Some(waiter) = waiter {
+                *turn = Turn(Some(waiter.waker));
+            }
         }
     }
 }

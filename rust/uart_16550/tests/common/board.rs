@@ -68,7 +68,8 @@ mod board {
                     let data = u8::from(!self.received.is_empty());
                     0x60 | data | errors.bits()
                 }
-                offsets::MSR => (MSR::CTS | MSR::DSR | MSR::CD).bits(),
+                // A cable of three wires: no line of the other end is there.
+                offsets::MSR => MSR::empty().bits(),
                 _ => self.cells[offset],
             }
         }

@@ -17,7 +17,7 @@ fn start() {
     let memory = uart_16550::ring::Memory::new(Box::leak(Box::new([0; 1024 + 256])));
     let uart = Uart16550::new_with_backend(board::Registers);
     let started = LINE.start(0, memory.global(), uart, 1024, 256);
-    started.map_err(|(_uart, cause)| cause).unwrap();
+    started.unwrap();
     let interrupts = IER::DATA_READY | IER::RECEIVER_LINE_STATUS;
     let config = Config {
         interrupts,

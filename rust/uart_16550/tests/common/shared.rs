@@ -7,7 +7,7 @@ static PORT: uart_16550::shared::Shared<Masked, board::Registers> =
     uart_16550::shared::Shared::new(Masked);
 
 fn handle_interrupt() {
-    let _handled = PORT.with(|ring| ring.handle(4 * uart_16550::ring::MAX_INTERRUPTS));
+    let _handled = PORT.try_handle(4 * uart_16550::ring::MAX_INTERRUPTS, 100);
 }
 
 // Starts the port.
@@ -18,7 +18,7 @@ fn start() {
     let memory = uart_16550::ring::Memory::new(Box::leak(Box::new([0; 1024 + 256])));
     let uart = Uart16550::new_with_backend(board::Registers);
     let started = PORT.start(memory.global(), uart, 1024, 256);
-    started.map_err(|(_uart, cause)| cause).unwrap();
+    started.unwrap();
     let interrupts = IER::DATA_READY | IER::RECEIVER_LINE_STATUS;
     let config = Config {
         interrupts,

@@ -16,6 +16,9 @@ pub enum Fault {
     BrokenFifo,
     /// THR_EMPTY comes when the transmitter becomes empty, and not when it is enabled on one that is.
     SilentWhenEnabled,
+    /// ISR has a bit for each cause: where THR_EMPTY and received data are due together it shows 06, a
+    /// line status, and the read acknowledges THR_EMPTY.
+    JoinsCauses,
     /// ISR shows this in its low four bits, as long as an interrupt is enabled.
     Stuck(u8),
     /// ISR shows this whatever is enabled, so that the line never falls.
@@ -156,13 +159,16 @@ impl Chip {
 
     // The low four bits of ISR, in the order of their priorities.
     fn interrupt(&self) -> u8 {
+        let has_data = self.enables(IER::DATA_READY) && !self.received.is_empty();
+        let is_empty = self.enables(IER::THR_EMPTY) && self.is_empty_due;
         let is_timed_out = self.fault == Some(Fault::TimesOutWithoutData) && self.is_timed_out;
         match self.fault {
             Some(Fault::StuckForGood(shown)) => shown,
             Some(Fault::Stuck(shown)) if self.enables(IER::all()) => shown,
             _ if self.enables(IER::DATA_READY) && is_timed_out => TIMEOUT,
-            _ if self.enables(IER::DATA_READY) && !self.received.is_empty() => DATA,
-            _ if self.enables(IER::THR_EMPTY) && self.is_empty_due => THR_EMPTY,
+            Some(Fault::JoinsCauses) if has_data && is_empty => DATA | THR_EMPTY,
+            _ if has_data => DATA,
+            _ if is_empty => THR_EMPTY,
             _ if self.enables(IER::MODEM_STATUS) && self.msr & 0x0f != 0 => MODEM,
             _ if self.is_busy_detected => BUSY,
             _ => NONE,
@@ -171,7 +177,7 @@ impl Chip {
 
     fn isr(&mut self) -> u8 {
         let interrupt = self.interrupt();
-        self.is_empty_due &= interrupt != THR_EMPTY;
+        self.is_empty_due &= interrupt != THR_EMPTY && interrupt != DATA | THR_EMPTY;
         match self.fault {
             _ if !self.is_fifo_on => interrupt,
             Some(Fault::BrokenFifo) => 0x80 | interrupt,

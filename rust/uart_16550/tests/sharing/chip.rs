@@ -20,6 +20,8 @@ pub struct Chip {
     is_empty_due: bool,
     /// What ISR always shows, if the chip is broken.
     pub shown: Option<u8>,
+    /// Whether the next read of ISR panics, as of a bus that failed.
+    pub panics: bool,
 }
 
 impl Chip {
@@ -69,6 +71,7 @@ impl Backend for Cable {
         match usize::from(register_offset) {
             offsets::DATA => chip.received.pop_front().unwrap_or(0),
             offsets::ISR => {
+                assert!(!std::mem::take(&mut chip.panics), "the bus failed");
                 let isr = chip.isr();
                 chip.is_empty_due &= isr != THR_EMPTY_INTERRUPT;
                 isr

@@ -1,5 +1,5 @@
 //! The state of a device as bytes: for files, for formats that know no structs, for C, and for serde. `STATE.md` of the package has the
-//! layout, and the header `uart_16550_state.h` of the library for C has the same.
+//! layout, and `uart_port.h` for C has the same.
 
 use super::{BadState, SerialState};
 use crate::registers::{FifoTriggerLevel, IER, LCR, LSR, MCR, MSR};
@@ -437,7 +437,7 @@ impl SerialState {
 
     /// Returns the state as bytes. It is to be the state of a device, of a port or of a live chip.
     ///
-    /// `STATE.md` of the package has the layout. The library for C reads and writes the same bytes.
+    /// `STATE.md` of the package has the layout. `uart_port.c` reads and writes the same bytes.
     #[must_use]
     #[allow(clippy::cast_possible_truncation, reason = "a state has 171 bytes")]
     pub fn to_bytes(&self) -> [u8; Self::LEN] {

@@ -1,12 +1,12 @@
 /*
- * Restores chips and ports of the library for C from states, saves them, and writes their states: for the test travel.rs, which has made
- * the states in Rust.
+ * Restores chips and ports of c/uart_port.c from states, saves them, and writes their states: for the test travel.rs, which has made the
+ * states in Rust.
  *
  * Reads records from standard input: how many bytes, as a number of two bytes, and so many bytes. For each it writes one byte for
  * what uart_chip_from_bytes returns, the lowest byte of the detail, and one byte each for what uart_chip_load and uart_port_load return.
  * Then it writes of the chip and of the port that were loaded, or zeros: the state, UART_STATE_LEN bytes, and what a guest finds.
  */
-#include "uart_16550_state.h"
+#include "uart_port.h"
 
 #include <stdio.h>
 #include <string.h>

@@ -1,4 +1,4 @@
-use Rattle.uart_uses.proofs.SessionCalls.{new_fits}
+use Rattle.uart_uses.proofs.RingStarts.{new_fits}
 use Rattle.uart_uses.proofs.ring_starting.start_rings.Goals as goal
 
 pub returns-in-Ok-clause-begins : goal.returns-in-Ok-clause-begins

@@ -265,6 +265,10 @@ impl<B: Backend> Uart16550<B> {
     /// is left out of the outputs. Afterwards the driver's configuration has no interrupts. `init`,
     /// or `restore` with a dump that was made before, takes the port up again.
     ///
+    /// Reads no received byte. Some chips show `DATA_READY` behind a reset of the FIFOs, or after
+    /// they were turned off: a receive behind this call may return a byte from before, or one that
+    /// never arrived. `init` discards it.
+    ///
     /// # Examples
     ///
     /// ```
@@ -305,6 +309,10 @@ impl<B: Backend> Uart16550<B> {
     /// chip does not show its own, and ISR tells whether they are on now (`fifo_enabled`). `DLAB`
     /// and `LOOP_BACK` are left out. Does not wait, and discards nothing that is saved for the next
     /// `lsr` or `msr`. The other fields of the configuration stay as they are.
+    ///
+    /// Reads no received byte. On a chip that shows `DATA_READY` behind the reset of its FIFOs the
+    /// next receive may return a byte from before, or one that never arrived: receive what waits,
+    /// and discard it.
     ///
     /// # Examples
     ///

@@ -8,7 +8,7 @@ use proved_uart_16550::backend::{Backend, ByteAccess};
 use std::error::Error;
 use std::num::NonZeroUsize;
 use uart_calls::replay::Replay;
-use uart_spec::registers::{IER, LSR, offsets};
+use uart_spec::registers::{IER, LSR, Parity, WordLength, offsets};
 use uart_spec::{BaudRate, Config, Received};
 
 #[test]
@@ -19,6 +19,19 @@ fn send_bytes_exact_sends_all() {
         assert_eq!(uart.send_bytes_exact(b"hello"), Ok(()));
         assert_eq!(uart.backend().device.sent, b"hello");
     }
+}
+
+#[test]
+fn a_frame_that_is_set_is_kept() {
+    let config = Config {
+        data_bits: WordLength::SevenBits,
+        parity: Parity::Even,
+        ..Config::DEFAULT
+    };
+    let mut uart = driver(RegisterFile::new(true));
+    assert_eq!(uart.init(Config::DEFAULT), Ok(()));
+    assert_eq!(uart.set_frame(&config), Ok(()));
+    assert_eq!(uart.config(), &config);
 }
 
 #[test]

@@ -29,7 +29,7 @@ fn rings(
     uart.init(config).unwrap();
     match Uart16550Ring::new(Global::heap(), uart, tx_capacity, rx_capacity) {
         Ok(ring) => ring,
-        Err((_, cause)) => panic!("{cause}"),
+        Err(refused) => panic!("{refused}"),
     }
 }
 
@@ -298,4 +298,16 @@ fn an_overrun_is_told_once() {
     let machine = ring.inner().backend();
     assert_eq!(machine.mark(0), Some(ArrivalMark::Dropped));
     assert_eq!(machine.mark(1), Some(ArrivalMark::Read));
+}
+
+/// Rings that are made over a driver which an `init` has just set up, with their calls: a session that begins with empty rings.
+#[test]
+fn rings_from_an_init() {
+    let mut ring = slow_rings(256);
+    assert_eq!((ring.transmit_len(), ring.receive_len()), (0, 0));
+    let calls = [RingCall::Next, RingCall::ResumeTransmit];
+    assert!(calls.iter().all(RingCall::is_of_rings));
+    let mut answers = [RingAnswer::Count(1), RingAnswer::Count(1)];
+    run_ring(&mut ring, &calls, &mut answers);
+    assert_eq!(answers, [RingAnswer::Done, RingAnswer::Done]);
 }

@@ -1,8 +1,9 @@
 //! Serving interrupts.
 
 use super::Uart16550Ring;
+use bitflags::Flags;
 use uart_16550::backend::Backend;
-use uart_spec::registers::InterruptType;
+use uart_spec::registers::{InterruptType, LSR};
 
 /// The most interrupts that one call of `service` serves.
 // A broken chip can show interrupts without end, and no call may wait.
@@ -30,24 +31,66 @@ pub struct Handled {
     pub end: HandleEnd,
 }
 
+// What serving interrupts did.
+#[derive(Clone, Copy)]
+struct Served {
+    handled: Handled,
+    // A line status has shown room, and nothing was sent behind it.
+    has_room: bool,
+}
+
 impl<B: Backend> Uart16550Ring<B> {
-    // Serves one interrupt.
-    fn serve(&mut self, interrupt: InterruptType) {
+    // Notes the errors of a line status. Returns whether this sends and LSR shows room.
+    fn serve_line(&mut self, sends: bool) -> bool {
+        let status = self.note_line();
+        sends && status.contains(LSR::THR_EMPTY)
+    }
+
+    // Receives bytes. Then sends, if a line status has shown room.
+    //
+    // why: where THR_EMPTY and received data are due together, some chips show a line status, and
+    // that read of ISR acknowledges the THR_EMPTY. LSR shows the room all the same. And a THR_EMPTY
+    // that got lost is made up for here.
+    // why: behind the data, and not at the line status: a burst ahead of the first byte would take
+    // time that the receiver may not have.
+    fn serve_data(&mut self, has_room: bool) {
+        self.fill_receive_ring();
+        self.send_on_if(has_room);
+    }
+
+    // Sends, if a line status has shown room.
+    fn send_on_if(&mut self, has_room: bool) {
+        if has_room {
+            self.send_on();
+        }
+    }
+
+    // Serves one interrupt. Takes and returns whether a line status has shown room, behind which
+    // nothing was sent. Only a handler sends there.
+    fn serve(&mut self, interrupt: InterruptType, sends: bool, has_room: bool) -> bool {
         match interrupt {
-            InterruptType::ReceiverLineStatus => self.note_line(),
+            InterruptType::ReceiverLineStatus => self.serve_line(sends),
             InterruptType::ReceivedDataReady | InterruptType::ReceptionTimeout => {
-                self.fill_receive_ring()
+                self.serve_data(has_room);
+                false
             }
-            InterruptType::TransmitterHoldingRegisterEmpty => self.pump(),
-            InterruptType::ModemStatus => self.note_modem(),
+            InterruptType::TransmitterHoldingRegisterEmpty => {
+                self.pump();
+                false
+            }
+            InterruptType::ModemStatus => {
+                self.note_modem();
+                has_room
+            }
             InterruptType::DmaReceptionEndOfTransfer
-            | InterruptType::DmaTransmissionEndOfTransfer => {}
+            | InterruptType::DmaTransmissionEndOfTransfer => has_room,
         }
     }
 
     // Serves the interrupts that ISR identifies, at most `limit`. Returns how many, and why it
     // serves no more.
-    fn serve_up_to(&mut self, limit: usize) -> Handled {
+    fn serve_up_to(&mut self, limit: usize, sends: bool) -> Served {
+        let mut has_room = false;
         for served in 0..limit {
             let isr = self.uart.isr();
             let Some(interrupt) = isr.interrupt_type() else {
@@ -56,16 +99,18 @@ impl<B: Backend> Uart16550Ring<B> {
                 } else {
                     HandleEnd::Idle
                 };
-                return Handled { served, end };
+                let handled = Handled { served, end };
+                return Served { handled, has_room };
             };
-            self.serve(interrupt);
+            has_room = self.serve(interrupt, sends, has_room);
         }
         // ISR is not read once more to see whether another is pending: a read that shows THR_EMPTY
         // acknowledges it, and an interrupt that is acknowledged and not served never comes again.
-        Handled {
+        let handled = Handled {
             served: limit,
             end: HandleEnd::Limit,
-        }
+        };
+        Served { handled, has_room }
     }
 
     /// Serves the interrupts that ISR identifies, until it identifies none or [`MAX_INTERRUPTS`]
@@ -104,7 +149,7 @@ impl<B: Backend> Uart16550Ring<B> {
     ///
     /// # Proved
     ///
-    /// - *did*: [does as](crate::proved::ring#RingDid) [`Services`](crate::proved::service#Services) `result`: at most 8 interrupts are served. It tells how many, and not why it ended.
+    /// - *did*: [does as](crate::proved::ring#RingDid) [`Services`](crate::proved::service#Services) `result`: at most 8 interrupts are served, and bytes are sent at THR-empty alone. It tells how many, and not why it ended.
     /// - *count*: `result ≤ MAX_INTERRUPTS`.
     ///
     /// <details><summary>The clauses</summary>
@@ -121,7 +166,7 @@ impl<B: Backend> Uart16550Ring<B> {
         // The number does not tell whether an interrupt without a name is left, and if the line
         // stays high no edge comes. So this call is for programs that poll, and `handle` for
         // handlers.
-        self.serve_up_to(MAX_INTERRUPTS).served
+        self.serve_up_to(MAX_INTERRUPTS, false).handled.served
     }
 
     /// Makes the chip's interrupt line fall, and rise again if an interrupt is enabled and pending:
@@ -169,6 +214,21 @@ impl<B: Backend> Uart16550Ring<B> {
         self.uart.retrigger_interrupts();
     }
 
+    // Triggers what is left again, and sends before that, if a line status has shown room.
+    fn retrigger_unless_idle(&mut self, has_room: bool, end: HandleEnd) {
+        match end {
+            // ISR has shown that none is pending, so the line has been low.
+            HandleEnd::Idle => {}
+            // The line may still be high, and a controller that detects edges would never call the
+            // handler again. At such a controller a broken chip has the handler called without end,
+            // so a handler counts these rounds, and then disables the chip's interrupts.
+            HandleEnd::Unknown | HandleEnd::Limit => {
+                self.send_on_if(has_room);
+                self.retrigger();
+            }
+        }
+    }
+
     /// Handles the chip's interrupt: serves what is pending, as `service` does, but at most `limit`
     /// interrupts. Returns how many it served, and why it ended.
     ///
@@ -179,6 +239,10 @@ impl<B: Backend> Uart16550Ring<B> {
     ///   makes the line rise.
     /// - Otherwise an interrupt may be left, and `handle` makes the line fall and rise again, as
     ///   `retrigger` does. So the controller calls the handler again.
+    ///
+    /// At a line status it notes whether LSR shows room. If so, it sends bytes that wait behind the
+    /// next received data, though ISR shows no `THR_EMPTY`: where both are due, some chips show a
+    /// line status.
     ///
     /// A broken chip may show interrupts for ever, and the controller then calls the handler for
     /// ever. So count the calls in a row that do not end with `Idle`, and after a number of them
@@ -202,7 +266,7 @@ impl<B: Backend> Uart16550Ring<B> {
     ///
     /// # Proved
     ///
-    /// - [Does as](crate::proved::ring#RingDid) [`Handles`](crate::proved::handle#Handles) `limit result`: as many interrupts as are pending are served, but no more than the limit. Then, unless ISR has shown that none is pending, IER is read, and written with 0 and with what was read: what is left is triggered again.
+    /// - [Does as](crate::proved::ring#RingDid) [`Handles`](crate::proved::handle#Handles) `limit result`: as many interrupts as are pending are served, but no more than the limit; if a line status shows room, bytes that wait are sent behind the data that comes next. Then, unless ISR has shown that none is pending, IER is read, and written with 0 and with what was read: what is left is triggered again.
     ///
     /// <details><summary>The clauses</summary>
     ///
@@ -214,15 +278,8 @@ impl<B: Backend> Uart16550Ring<B> {
     ///
     /// </details>
     pub fn handle(&mut self, limit: usize) -> Handled {
-        let handled = self.serve_up_to(limit);
-        match handled.end {
-            // ISR has shown that none is pending, so the line has been low.
-            HandleEnd::Idle => {}
-            // The line may still be high, and a controller that detects edges would never call the
-            // handler again. At such a controller a broken chip has the handler called without end,
-            // so a handler counts these rounds, and then disables the chip's interrupts.
-            HandleEnd::Unknown | HandleEnd::Limit => self.retrigger(),
-        }
-        handled
+        let round = self.serve_up_to(limit, true);
+        self.retrigger_unless_idle(round.has_room, round.handled.end);
+        round.handled
     }
 }

@@ -8,10 +8,12 @@ use uart_spec::ConfigRegisterDump;
 use uart_spec::registers::{LSR, MSR};
 
 impl<B: Backend> Uart16550Ring<B> {
-    // Notes the errors that LSR shows, and those that the driver has saved.
-    pub(super) fn note_line(&mut self) {
+    // Notes the errors that LSR shows, and those that the driver has saved. Returns both with the
+    // other bits of LSR.
+    pub(super) fn note_line(&mut self) -> LSR {
         let status = self.uart.lsr();
         self.line.insert(status.intersection(LSR::LINE_ERRORS));
+        status
     }
 
     // Notes the changes that MSR shows, and those that the driver has saved.

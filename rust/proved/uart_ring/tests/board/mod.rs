@@ -153,7 +153,7 @@ pub fn started(board: &Rc<RefCell<Board>>, interrupts: IER, ring_size: usize) ->
         assert_eq!(uart.init(config), Ok(()));
         match Uart16550Ring::new(Global::heap(), uart, ring_size, ring_size) {
             Ok(ring) => LinePort::new(ring),
-            Err((_uart, cause)) => panic!("{cause}"),
+            Err(refused) => panic!("{refused}"),
         }
     };
     let ports = board.borrow().chips.len();

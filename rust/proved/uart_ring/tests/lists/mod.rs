@@ -53,6 +53,8 @@ pub enum Step {
     Write(usize, u8),
     /// The register is read, and then written.
     Changed(usize, u8, u8),
+    /// Each byte is written to DATA.
+    Sent(&'static [u8]),
     /// LSR shows that the transmitter is empty, and each byte is written to DATA.
     Burst(&'static [u8]),
     /// For each byte LSR shows that one waits, and DATA is read.
@@ -68,10 +70,14 @@ impl Step {
             Step::Changed(offset, from, to) => {
                 vec![Access::Read(offset, from), Access::Write(offset, to)]
             }
+            Step::Sent(bytes) => {
+                let sent = |&byte| Access::Write(offsets::DATA, byte);
+                bytes.iter().map(sent).collect()
+            }
             Step::Burst(bytes) => {
-                let look = Access::Read(offsets::LSR, EMPTY);
-                let sent = bytes.iter().map(|&byte| Access::Write(offsets::DATA, byte));
-                std::iter::once(look).chain(sent).collect()
+                let mut burst = vec![Access::Read(offsets::LSR, EMPTY)];
+                burst.extend(Step::Sent(bytes).accesses());
+                burst
             }
             Step::Received(bytes) => {
                 let received = |&byte| {
@@ -121,7 +127,7 @@ pub fn rings(answers: &[u8], tx_capacity: usize, rx_capacity: usize) -> Uart1655
     let uart = Uart16550::new_with_backend(Replay::new(answers));
     match Uart16550Ring::new(Global::heap(), uart, tx_capacity, rx_capacity) {
         Ok(ring) => ring,
-        Err((_uart, cause)) => panic!("{cause}"),
+        Err(refused) => panic!("{refused}"),
     }
 }
 

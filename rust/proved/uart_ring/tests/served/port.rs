@@ -1,5 +1,5 @@
-// A port that is served by interrupts: that of crates/uart_uses/src/tests/rings/handler.rt, without its contracts. The tests that drive
-// several ports on one line include it.
+// A port that is served by interrupts: the handler of the documentation. The tests that drive it alone, and several ports on one line,
+// include it.
 
 /// Why a port was not started.
 #[derive(Debug)]
@@ -44,7 +44,7 @@ impl<B: Backend> Port<B> {
         let uart = Uart16550::new_with_backend(backend);
         let mut ring = match Uart16550Ring::new(memory, uart, 1024, 256) {
             Ok(ring) => ring,
-            Err((_uart, cause)) => return Err(StartError::NoRings(cause)),
+            Err(refused) => return Err(StartError::NoRings(refused.cause)),
         };
         match ring.inner_mut().init(config()) {
             Ok(()) => Ok(Port {

@@ -1,7 +1,7 @@
 use Rattle.uart_calls.specs.Replay.{Replay, ReplayStep}
 use Rattle.uart_16550.specs.declared.driver.Uart16550.{Uart16550}
 use Rattle.uart_calls.proofs.Replays.{did_replay}
-use Rattle.uart_events.specs.declared.call.Answer.{Answer}
+use Rattle.uart_call.specs.declared.call.Answer.{Answer}
 use Rattle.uart_calls.specs.Meaning.{Meaning, Called}
 use Rattle.uart_calls.specs.Replays.{CallReplayed}
 use Rattle.uart_calls.proofs.tests.replays.replayed.Goals as goal

@@ -2,7 +2,6 @@ use Rattle.std.proofs.Common.{◌≡◌, Bool, true, false, not, refl, sym, arit
 use Rattle.std.proofs.lemmas.Bool.{false≢true}
 use Rattle.uart_16550.proofs.Doings.{did_made, did_among}
 use Rattle.uart_ring.specs.Ring.{unchanged}
-use Rattle.uart_ring.specs.Service.{ServesOne}
 use Rattle.uart_ring.proofs.RingDoings.{ring_did, ring_then, ring_among, ring_times, ring_none}
 use Rattle.uart_ring.proofs.ring.Uart16550Ring.serve_up_to.Goals as goal
 
@@ -29,9 +28,9 @@ returns-else-has_pending_interrupt g c =
     (ring_did unchanged _ _ (did_among (λ f l after t. (_, c.in_default.ensures, idle, t)) (did_made c.isr-isr.ensures)) refl))
 
 pub loop-served-preserved : goal.loop-served-preserved
-loop-served-preserved g c = ring_times _ ServesOne c.loop-served.invariant (ring_among (λ l t. (c.in-Some.interrupt, t))
+loop-served-preserved g c = ring_times _ _ false _ _ c.loop-served.invariant (ring_among (λ l t. (c.in-Some.interrupt, t))
     (ring_then (ring_did unchanged _ _ (did_among (λ f l after t. (_, c.in-Some.ensures, t)) (did_made c.isr-isr.ensures)) refl)
-    c.serve.ensures))
+    c.serve-has_room.ensures))
 
 pub returns : goal.returns
 returns g c =

@@ -1,6 +1,7 @@
-use Rattle.uart_ring.specs.Ring.{RingDid, RingTimes}
-use Rattle.uart_ring.specs.Service.{ServesOne}
+use Rattle.std.specs.Prelude.{false}
+use Rattle.uart_ring.specs.Ring.{RingDid}
+use Rattle.uart_ring.specs.Service.{ServesTimes}
 use Rattle.uart_ring.proofs.ring.Uart16550Ring.serve_up_to.Given as goal
 
 abbrev pub invariant-loop-served : goal.invariant-loop-served
-invariant-loop-served g l = RingDid g.B.Backend.step (RingTimes l.served ServesOne) l.fn.self l.self
+invariant-loop-served g l = RingDid g.B.Backend.step (ServesTimes l.fn.sends l.served false l.has_room) l.fn.self l.self

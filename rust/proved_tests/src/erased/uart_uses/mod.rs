@@ -1,3 +1,0 @@
-//! The interrupt handler of the documentation, and its tests.
-
-mod rings;
