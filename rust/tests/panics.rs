@@ -21,7 +21,7 @@ use uart_16550::native::{
 use core::task::{Context, Poll};
 use uart_16550::emergency::EmergencyConsole;
 use uart_16550::ring::{
-    ErrorNotes, Global, Handled, LinePort, LinePorts, Lowered, Memory, ReceiveMarks, RingError, StuckError, Uart16550Ring, UnnotedError,
+    ErrorNotes, Global, Handled, LinePort, LinePorts, Lowered, Memory, ReceiveMarks, Refused, RingError, StuckError, Uart16550Ring, UnnotedError,
 };
 use uart_16550::rs485::{BusyError, Direction, EchoError, HalfDuplex, HalfDuplexRing, NotSendingError, SendError};
 use uart_16550::shared::{CriticalSection, PortOfLine, Shared, SharedBus, SharedError, SharedLine, StartError, Unfinished, Wait};
@@ -204,7 +204,7 @@ calls! {
     design_ware_registers_mut(backend: &mut DesignWare<DesignWareMemory>) -> &mut DesignWareMemory { backend.registers_mut() }
     design_ware_init(uart: &mut Uart16550<DesignWare<DesignWareMemory>>, config: Config) -> Result<(), InitError> { uart.checked_init(config) }
     direction_receiving(direction: Direction, outputs: MCR) -> MCR { direction.receiving(outputs) }
-    half_duplex_new(uart: Uart16550<Device>, direction: Direction) -> Result<HalfDuplex<Device>, (Uart16550<Device>, BusyError)> { HalfDuplex::new(uart, direction) }
+    half_duplex_new(uart: Uart16550<Device>, direction: Direction) -> Result<HalfDuplex<Device>, Refused<Uart16550<Device>, BusyError>> { HalfDuplex::new(uart, direction) }
     half_duplex_start_sending(bus: &mut HalfDuplex<Device>) { bus.start_sending() }
     half_duplex_try_finish(bus: &mut HalfDuplex<Device>) -> Result<(), BusyError> { bus.try_finish() }
     half_duplex_give_up(bus: HalfDuplex<Device>) -> (Uart16550<Device>, LSR) { bus.give_up() }
@@ -225,7 +225,7 @@ calls! {
     half_duplex_receive_bytes_while(bus: &mut HalfDuplex<Device>, buffer: &mut [u8]) -> Result<(), StalledError> { bus.receive_bytes_while(buffer, &mut || device_read(8) != 0) }
     half_duplex_receive_echo(bus: &mut HalfDuplex<Device>, sent: &[u8]) -> Result<(), EchoError> { bus.receive_echo(sent) }
     half_duplex_lsr(bus: &mut HalfDuplex<Device>) -> LSR { bus.lsr() }
-    half_duplex_ring_new(ring: Ring, direction: Direction) -> Result<HalfDuplexRing<Device>, (Ring, BusyError)> { HalfDuplexRing::new(ring, direction) }
+    half_duplex_ring_new(ring: Ring, direction: Direction) -> Result<HalfDuplexRing<Device>, Refused<Ring, BusyError>> { HalfDuplexRing::new(ring, direction) }
     half_duplex_ring_start_sending(bus: &mut HalfDuplexRing<Device>) { bus.start_sending() }
     half_duplex_ring_try_finish(bus: &mut HalfDuplexRing<Device>) -> Result<(), BusyError> { bus.try_finish() }
     half_duplex_ring_queue(bus: &mut HalfDuplexRing<Device>, bytes: &[u8]) -> Result<usize, NotSendingError> { bus.queue(bytes) }
@@ -254,14 +254,14 @@ calls! {
     store_register(address: *mut u8, width: RegisterWidth, byte_order: ByteOrder, value: u8) { unsafe { uart_16550::native::backend::store_register(address, width, byte_order, value) } }
     width_bytes(width: RegisterWidth) -> u8 { width.bytes() }
 
-    ring_new(memory: Global<'_>, uart: Uart, transmit: usize, receive: usize) -> Result<Ring, (Uart, RingError)> { Ring::new(memory, uart, transmit, receive) }
+    ring_new(memory: Global<'_>, uart: Uart, transmit: usize, receive: usize) -> Result<Ring, Refused<Uart, RingError>> { Ring::new(memory, uart, transmit, receive) }
     ring_memory(bytes: &'static mut [u8]) -> Memory { Memory::new(bytes) }
     ring_global(memory: &Memory) -> Global<'_> { memory.global() }
     ring_into_inner(ring: Ring) -> Uart { ring.into_inner() }
     // panics makes a line of each other call of the driver and the rings here.
     ring_take_with_errors(ring: &mut NotingRing, slots: &mut [Received]) -> Result<usize, UnnotedError> { ring.take_with_errors(slots) }
     ring_copy_with_notes(ring: &Ring, notes: &ErrorNotes<Device>, slots: &mut [Received]) -> Result<usize, UnnotedError> { ring.copy_with_notes(notes, slots) }
-    error_notes_new(memory: Global<'_>, backend: Device, capacity: usize) -> Result<ErrorNotes<Device>, (Device, RingError)> { ErrorNotes::new(memory, backend, capacity) }
+    error_notes_new(memory: Global<'_>, backend: Device, capacity: usize) -> Result<ErrorNotes<Device>, Refused<Device, RingError>> { ErrorNotes::new(memory, backend, capacity) }
     error_notes_backend(notes: &ErrorNotes<Device>) -> &Device { notes.backend() }
     error_notes_backend_mut(notes: &mut ErrorNotes<Device>) -> &mut Device { notes.backend_mut() }
     error_notes_read(notes: &mut ErrorNotes<Device>, offset: u8) -> u8 { notes.read(offset) }
@@ -273,7 +273,7 @@ calls! {
     line_port_raise(port: &mut LinePort<Device>) { port.raise() }
     line_handle_line(port: &mut One, limit: usize, rounds: u32) -> bool { uart_16550::ring::handle_line(port, limit, rounds) }
     line_handle_ports(ports: &mut [LinePort<Device>], limit: usize, rounds: u32) -> bool { uart_16550::ring::handle_ports(ports, limit, rounds) }
-    line_start(line: &Line, port: usize, memory: Global<'_>, uart: Uart) -> Result<(), (Uart, StartError)> { line.start(port, memory, uart, 64, 64) }
+    line_start(line: &Line, port: usize, memory: Global<'_>, uart: Uart) -> Result<(), Refused<Uart, StartError>> { line.start(port, memory, uart, 64, 64) }
     line_stop(line: &Line, port: usize) -> Result<Ring, SharedError> { line.stop(port) }
     line_handle(line: &Line, limit: usize, rounds: u32) -> Result<bool, SharedError> { line.handle(limit, rounds) }
     line_handled(line: &Line, port: usize) -> Result<Handled, SharedError> { line.handled(port) }
@@ -285,10 +285,10 @@ calls! {
     port_of_line_blocking_read(port: OfLine<'_>, slots: &mut [u8]) -> Result<usize, SharedError> { port.blocking(Once).read(slots) }
     port_of_line_blocking_flush(port: OfLine<'_>) -> Result<(), SharedError> { port.blocking(Once).flush() }
 
-    shared_start(port: &Port, memory: Global<'_>, uart: Uart) -> Result<(), (Uart, StartError)> { port.start(memory, uart, 64, 64) }
+    shared_start(port: &Port, memory: Global<'_>, uart: Uart) -> Result<(), Refused<Uart, StartError>> { port.start(memory, uart, 64, 64) }
     shared_stop(port: &Port) -> Result<Ring, SharedError> { port.stop() }
     shared_try_handle(port: &Port, limit: usize, rounds: u32) -> Result<Handled, SharedError> { port.try_handle(limit, rounds) }
-    shared_start_with(port: &Port, rings: Ring) -> Result<(), (Ring, StartError)> { port.start_with(rings) }
+    shared_start_with(port: &Port, rings: Ring) -> Result<(), Refused<Ring, StartError>> { port.start_with(rings) }
     shared_bus_try_handle(bus: &Bus, limit: usize, rounds: u32) -> Result<Handled, SharedError> { bus.try_handle(limit, rounds) }
     shared_bus_with(bus: &Bus) -> Result<usize, SharedError> { bus.with(|bus| bus.inner().transmit_len()) }
     shared_bus_poll_write(bus: &Bus, context: &mut Context<'_>, bytes: &[u8]) -> Poll<Result<usize, SharedError>> { bus.poll_write(context, bytes) }
