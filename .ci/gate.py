@@ -1,18 +1,16 @@
-"""What the scripts of this folder share: files by their content, what passed before on this machine, commands with what they read, and how
-their time is told.
+"""What the scripts of this folder share: files by their content, what is kept of earlier proofs and tests on this machine, commands that
+count, and how their time is told.
 
 A script here imports it by `sys.dont_write_bytecode = True; import gate`: Python looks beside the script first.
 """
 import contextlib
 import fcntl
-import fnmatch
 import functools
 import hashlib
 import json
 import os
 import pathlib
 import re
-import shutil
 import subprocess
 import sys
 import tempfile
@@ -29,7 +27,6 @@ LEAST = re.compile(r"^ *(\d+) ([^,]+)(?:, (\d+) without (.+))?$")
 # How a line names what failed.
 FAILURE = re.compile(r"FAILED|: failed\b")
 BEGAN = time.monotonic()
-DAY = 24 * 60 * 60
 
 
 def store() -> pathlib.Path:
@@ -72,30 +69,6 @@ def files() -> dict[str, str]:
         elif path.is_file():
             found[name] = f"{os.access(path, os.X_OK)} {hashlib.sha256(path.read_bytes()).hexdigest()}"
     return found
-
-
-def machine() -> str:
-    """Returns a sum of what tells one machine from another: the kit, the compilers, Debian's packages, the kernel, whether it may make
-    virtual machines and cut programs off from the network, and what the environment says to cargo, compilers and tests."""
-    asked = [
-        ["rt", "version"],
-        ["rustc", "-vV"],
-        ["cargo", "-V"],
-        ["rustup", "toolchain", "list"],
-        ["gcc", "--version"],
-        ["dpkg-query", "-W"],
-        ["uname", "-srm"],
-        ["bash", "-c", ": <> /dev/kvm"],
-        ["unshare", "-rn", "true"],
-    ]
-    rt = shutil.which("rt")
-    told: list[object] = [os.geteuid() == 0, rt and os.path.realpath(rt)]
-    # What passes with nothing taken passes with it too.
-    told += sorted(one for one in os.environ.items() if re.match(r"GEESETRUNK_(?!ANEW$)|ORIGINAL$|CARGO|RUST|CC$|CFLAGS$", one[0]))
-    for words in asked:
-        ended = subprocess.run(words, cwd=TOP, capture_output=True, check=False) if shutil.which(words[0]) else None
-        told.append(ended and (ended.returncode, ended.stdout))
-    return sum_of(told)
 
 
 # ---- what is kept on this machine
@@ -180,41 +153,17 @@ def leasts() -> dict[str, Least]:
 
 
 class Command:
-    """A command of the repository that counts what passed: its words, the commands that it waits for, and what of the checkout it does not
-    read, as patterns whose * takes / too. `but` names exceptions. So a new file counts for all until somebody says otherwise, and
-    `.ci/inputs` shows whether a command reads what is excepted here. One that is `always` run is never taken from an earlier run.
+    """A command of the repository that counts what passed: its words, the commands that it waits for, and how much it gives way to others.
 
     A command that counts less than its line of `.ci/counts` has failed, and one without a line if it tests nothing."""
 
-    def __init__(
-        self, words: str, after: Sequence[str] = (), without: Sequence[str] = (), but: Sequence[str] = (), always: bool = False, nice: int = 0
-    ) -> None:
-        self.words, self.after, self.without, self.but, self.always, self.nice = words, after, without, but, always, nice
+    def __init__(self, words: str, after: Sequence[str] = (), nice: int = 0) -> None:
+        self.words, self.after, self.nice = words, after, nice
         self.least, self.has_counted = leasts().get(words, Least()), False
         self.passed = self.failed = self.skipped = 0
         self.wall = self.cpu = 0.0
         self.status, self.is_running = "not run", False
         self.lines: list[str] = []
-        self.told: dict[str, Any] | None = None
-
-    def reads(self, name: str) -> bool:
-        return any(fnmatch.fnmatch(name, one) for one in self.but) or not any(fnmatch.fnmatch(name, one) for one in self.without)
-
-    def key(self, found: dict[str, str], of_machine: str) -> str:
-        return sum_of(2, of_machine, self.words, [(name, told) for name, told in found.items() if self.reads(name)])
-
-    def take(self, key: str) -> bool:
-        """Takes what an earlier run of the same counted, and returns whether there was one."""
-        told = kept("green", key)
-        # What was skipped for want of a package may be there tomorrow.
-        if told and (told["skipped"] and time.time() - told["at"] > DAY or told["passed"] < self.enough(bool(told["skipped"]))):
-            return False
-        if told:
-            self.told, self.has_counted = told, True
-            self.passed, self.status = told["passed"], f"kept: as on {told['when']}, when it took {told['wall']:.0f} s"
-            self.skipped = len(told["skipped"])
-            self.lines = [f"kept: {self.words}: {told['passed']} passed with the same files and tools on {told['when']}", *told["skipped"]]
-        return told is not None
 
     def run(self, out: Callable[[str], None] | None = None, counts: bool = True) -> None:
         """Runs the command and counts what it came to. With `out` each line is handed to that at once."""
@@ -256,18 +205,6 @@ class Command:
         """Counts one failure, for a reason that the command does not say itself."""
         self.failed, self.status = max(self.failed, 1), f"failed: {why}"
         self.lines.append(f"FAILED: {why}")
-
-    def keep(self, key: str) -> None:
-        """Keeps that the command passed. One that tested nothing has shown nothing."""
-        if self.passed and not self.failed:
-            self.told = self.told or {
-                "passed": self.passed,
-                "wall": self.wall,
-                "at": time.time(),
-                "when": time.strftime("%Y-%m-%d %H:%M", time.gmtime()),
-                "skipped": [line for line in self.lines if line.startswith("skipped")],
-            }
-            keep("green", key, {**self.told, "key": key})
 
 
 # ---- how time is told

@@ -7,16 +7,15 @@ what was proved: what laws ask for, uart_port on an emulated PC, the programs, t
 the C made of it, kernels and U-Boot over that, the wrong bodies of the gate, the example monitors, the tty driver in Linux, Linux on the
 device for monitors.
 
-A command that passed on this machine with the same files, tools and kit is not run again: its line names it and says what it counted then.
-`rt ci` is always run, and decides by itself what it keeps. With CI=true, as the machine has it that lands changes, or CI=full everything is
-run, and nothing is taken that an earlier run kept but proofs, which the kit checks; a checkout that is changed meanwhile fails. With WORDs
-only the commands whose name has one of them are run, which is not the gate.
+Every command is run, whatever passed before. Of `rt ci` the kit decides what it keeps, and of wrong bodies verdicts are kept. With CI=true, as
+the machine has it that lands changes, or CI=full nothing is taken that an earlier run kept but proofs, which the kit checks. A checkout that
+is changed meanwhile fails. With WORDs only the commands whose name has one of them are run, which is not the gate.
 
 What cannot be installed is skipped by name. How many each command counts at least is in .ci/counts: one that counts less has failed, and so
 has one that is not run or not there. Each minute a line says what is running. At the end are tables of seconds, of the commands and of the
 proofs, and of sizes, the lines of .ci/counts that this run would write otherwise, with the whole file for who means it, and what failed by
-name; the last line is 'N passed, M failed' over all commands, kept ones too, with ', K skipped' behind it if something was skipped, and the
-status is 0 if nothing failed. What takes hours is in .ci/nightly.
+name; the last line is 'N passed, M failed' over all commands, with ', K skipped' behind it if something was skipped, and the status is 0 if
+nothing failed. What takes hours is in .ci/nightly.
 """
 import concurrent.futures
 import pathlib
@@ -27,80 +26,60 @@ import sys
 import tempfile
 import threading
 import time
-from collections.abc import Sequence
 
 sys.dont_write_bytecode = True
 import gate
 from gate import Command
 
-# What of the checkout a command does not read. `.ci/inputs` runs the commands and finds what is wrong here.
-PAGES = ["CHANGELOG.md", "CONTRIBUTING.md", "SECURITY.md", "docs/*.md", ".ci/*", ".github/*"]
-# Definitions are none of them: the eraser holds what it writes beside some of these.
-PROOFS = ["crates/*/proofs/*", "crates/*/wrong-bodies"]
-# The pages that commands compare with code, and what is in .ci and is such a command.
-C_PAGES = ["docs/C.md", "docs/C_INTERRUPTS.md", "docs/HARDWARE.md", "docs/MANUAL.md", "docs/AUDIT.md", "docs/TROUBLE.md"]
-
 CI = "rt ci"
 SETTLED = re.compile(r"rt: (\w+) (?:proved|is kept: .*)$")
 # The fast ones, one after the other. Who forgot to renew something hears of it within half a minute, before anything is proved.
 FIRST = [
-    Command(".ci/lint", always=True),
-    Command(".ci/tests", always=True),
-    Command(".ci/documents", always=True),
-    Command(".ci/theorems", always=True),
-    Command(".ci/terms", always=True),
-    Command(".ci/houses", always=True),
-    Command(".ci/constants", always=True),
-    Command(".ci/parts", always=True),
-    Command(".ci/calling", always=True),
-    Command(".ci/catch-alls", always=True),
-    Command(".ci/pictures --check", always=True),
-    Command(".ci/chips", always=True),
-    Command(".ci/forged", always=True),
-    Command(".ci/bill --check", always=True),
-    Command(".ci/sizes --check", always=True),
-    Command(".ci/cases", always=True),
-    Command("tools/c/cases", always=True),
-    Command("tools/eraser/erase check", without=[*PAGES, *PROOFS]),
+    Command(".ci/lint"),
+    Command(".ci/tests"),
+    Command(".ci/documents"),
+    Command(".ci/theorems"),
+    Command(".ci/terms"),
+    Command(".ci/houses"),
+    Command(".ci/constants"),
+    Command(".ci/parts"),
+    Command(".ci/calling"),
+    Command(".ci/catch-alls"),
+    Command(".ci/pictures --check"),
+    Command(".ci/chips"),
+    Command(".ci/bill --check"),
+    Command(".ci/sizes --check"),
+    Command(".ci/cases"),
+    Command("tools/c/cases"),
+    Command("tools/eraser/erase check"),
 ]
-# What cargo alone builds is made of the erased crates, and of no source in Rattle. The READMEs of those are read.
-OF_RUST = [*PAGES, "crates/*", "bench/*", "tools/*"]
-# The page is made of the erased crates, the examples and what is by hand.
-OF_THE_PAGE = [*PAGES, *PROOFS, "crates/*", "bench/*", "tools/*", "c/*"]
-READMES = [*C_PAGES, "README.md", "*/README.md", "*/COMPAT.md"]
-# What tests in Rust include beside what cargo builds.
-INCLUDED = ["docs/PROVED.md", "crates/uart_judges_runs/src/laws.rt", "bench/interrupts/src/counting.rs"]
-# What users of these files have: how they are installed, their tests, the page, and what they cost.
-OF_USERS_OF_C = [*PAGES, "crates/*", "bench/*", "tools/eraser/*", "integration/*", "examples/*"]
 
 
-def beside(words: str, without: Sequence[str] = (*PAGES, *PROOFS), but: Sequence[str] = C_PAGES) -> Command:
+def beside(words: str) -> Command:
     """A command that needs no proof: it gives way to the proofs, on which all else waits."""
-    return Command(words, without=without, but=but, nice=19)
+    return Command(words, nice=19)
 
 
-def over(
-    words: str, after: Sequence[str] = (CI,), without: Sequence[str] = (*PAGES, "crates/*/wrong-bodies"), but: Sequence[str] = C_PAGES, nice: int = 0
-) -> Command:
-    """A command over what `rt ci` builds: that depends on the sources of the crates, which the sums have."""
-    return Command(words, after, without, but, nice=nice)
+def over(words: str, nice: int = 0) -> Command:
+    """A command over what `rt ci` builds."""
+    return Command(words, [CI], nice)
 
 
 COMMANDS = [
     *FIRST,
-    Command(CI, always=True),
+    Command(CI),
     beside("tools/eraser/erase test"),
     beside("tools/eraser/erase corpus"),
-    beside("integration/readme", without=OF_RUST, but=[*READMES, *INCLUDED]),
-    beside("integration/packages", without=OF_RUST, but=READMES),
-    beside("rust/tests/interface", without=OF_RUST, but=[*READMES, "CHANGELOG.md"]),
+    beside("integration/readme"),
+    beside("integration/packages"),
+    beside("rust/tests/interface"),
     beside("integration/rust"),
-    beside("integration/original", without=OF_RUST),
-    beside("bench/measure-size --check", without=OF_RUST, but=["bench/*"]),
-    beside("integration/doc", without=OF_RUST, but=READMES),
-    over("integration/port", without=OF_RUST),
+    beside("integration/original"),
+    beside("bench/measure-size --check"),
+    beside("integration/doc"),
+    over("integration/port"),
     over("integration/programs"),
-    beside("integration/web", without=OF_THE_PAGE),
+    beside("integration/web"),
     over("tools/eraser/mir/compare"),
     over("tools/c/emit --check driver"),
     over("tools/c/emit --check console"),
@@ -108,35 +87,19 @@ COMMANDS = [
     over("tools/c/compare driver", nice=19),
     over("tools/c/compare console", nice=19),
     over("tools/c/compare port", nice=19),
-    Command(".ci/premises", after=[CI], always=True, nice=19),
+    over(".ci/premises", nice=19),
     # Nothing waits for these, and they take all cores.
-    Command(".ci/wrong-bodies --after-ci --in-the-gate", after=[CI], always=True, nice=19),
-    beside("integration/c-kernels", without=OF_RUST),
-    beside("integration/census", without=OF_RUST, but=["docs/CHIPS.md"]),
-    beside("integration/boot-loaders u-boot", without=OF_RUST),
-    beside(
-        "integration/c",
-        without=OF_USERS_OF_C,
-        but=[
-            "docs/C.md",
-            "docs/C_CHIP.md",
-            "docs/C_INTERRUPTS.md",
-            "integration/apt",
-            "integration/bounds",
-            "integration/c",
-            "bench/callbacks.c",
-            "bench/port.c",
-            "bench/README.md",
-            "examples/choose/*",
-            "examples/monitor/*",
-        ],
-    ),
+    over(".ci/wrong-bodies --after-ci --in-the-gate", nice=19),
+    beside("integration/c-kernels"),
+    beside("integration/census"),
+    beside("integration/boot-loaders u-boot"),
+    beside("integration/c"),
     # These wait for other machines as a person would. Each takes less than a core, so they run side by side, and nothing else beside them.
-    over("integration/monitor", without=OF_RUST),
-    over("integration/linux", without=OF_RUST),
+    over("integration/monitor"),
+    over("integration/linux"),
     # These wait for nothing, and take a core.
-    beside("integration/c-monitor", without=OF_RUST),
-    over("integration/guest", without=OF_RUST),
+    beside("integration/c-monitor"),
+    over("integration/guest"),
 ]
 ALONE = 4
 for alone in COMMANDS[-ALONE:]:
@@ -167,10 +130,10 @@ def clear_libraries() -> None:
         shutil.rmtree(path)
 
 
-def hand_over(what: str) -> None:
-    """Has .ci/change know what passed here, so that it begins with that."""
+def hand_over() -> None:
+    """Has .ci/change know what `rt ci` proved here, so that it begins with that."""
     ended = subprocess.run(
-        [gate.TOP / ".ci" / "change", "--keep", what],
+        [gate.TOP / ".ci" / "change", "--keep-proofs"],
         stdin=subprocess.DEVNULL,
         stdout=subprocess.PIPE,
         stderr=subprocess.STDOUT,
@@ -181,12 +144,8 @@ def hand_over(what: str) -> None:
         say("note: .ci/change will not know of this run:", ended.stdout.rstrip("\n"))
 
 
-def run(command: Command, found: dict[str, str], machine: str, logs: pathlib.Path) -> None:
-    """Runs a command unless an earlier run of the same passed, prints what it says, and keeps that it passed."""
-    key = command.key(found, machine)
-    if not command.always and command.take(key):
-        say(*command.lines)
-        return
+def run(command: Command, found: dict[str, str], logs: pathlib.Path) -> None:
+    """Runs a command, and prints what it says."""
     is_ci = command.words == CI
     if is_ci:
         clear_libraries()
@@ -195,11 +154,8 @@ def run(command: Command, found: dict[str, str], machine: str, logs: pathlib.Pat
     (logs / re.sub(r"\W+", "-", command.words)).write_text("\n".join(command.lines) + "\n", encoding="utf-8")
     say(f"ran: {command.words}: {command.wall:.0f} s, {command.cpu:.0f} cpu s", *([] if is_ci else command.lines))
     # What was changed meanwhile may have been read before or after.
-    if not command.failed and gate.files() == found:
-        if is_ci:
-            hand_over("proofs")
-        elif not command.always:
-            command.keep(key)
+    if is_ci and not command.failed and gate.files() == found:
+        hand_over()
 
 
 def is_ready(command: Command, waited: set[str]) -> bool:
@@ -207,7 +163,7 @@ def is_ready(command: Command, waited: set[str]) -> bool:
     return all(one not in waited and (one in DONE or not (one.startswith(f"{CI}: ") and CI in waited)) for one in command.after)
 
 
-def run_all(left: list[Command], found: dict[str, str], machine: str, logs: pathlib.Path) -> None:
+def run_all(left: list[Command], found: dict[str, str], logs: pathlib.Path) -> None:
     """Runs commands side by side, each once those that it waits for have ended."""
     left, failed = [*left], set[str]()
     running: dict[concurrent.futures.Future[None], Command] = {}
@@ -221,7 +177,7 @@ def run_all(left: list[Command], found: dict[str, str], machine: str, logs: path
                     one.status = f"not run, since {lacking[0]} failed"
                     say(f"{one.words}: {one.status}")
                 else:
-                    running[pool.submit(run, one, found, machine, logs)] = one
+                    running[pool.submit(run, one, found, logs)] = one
             for ended in concurrent.futures.wait(running, timeout=1, return_when=concurrent.futures.FIRST_COMPLETED).done:
                 ended.result()
                 one = running.pop(ended)
@@ -264,9 +220,9 @@ def write_counts(told: dict[str, gate.Least], path: pathlib.Path) -> list[str]:
 
 
 def is_green(commands: list[Command], is_same: bool) -> bool:
-    """Returns whether all passed. Where nothing kept is taken, the checkout has to be the same as before: a command that changes it could
-    make another one test something else than what lands."""
-    if gate.IS_ANEW and not is_same:
+    """Returns whether all passed. The checkout has to be the same as before: a command that changes it could make another one test something
+    else than what lands."""
+    if not is_same:
         say("The checkout was changed while the commands ran, so they say nothing of it.")
         commands[-1].failed += 1
     return not any(one.failed for one in commands)
@@ -278,27 +234,18 @@ def main() -> bool:
     if not chosen:
         sys.exit(f"run: no command has one of these words: {' '.join(words)}")
     logs = pathlib.Path(tempfile.mkdtemp(prefix="ci-"))
-    found, machine = gate.files(), gate.machine()
+    found = gate.files()
     with gate.Clock(say, lambda: [one.words for one in chosen if one.is_running]) as clock:
         for one in chosen:
             if one in FIRST:
-                run(one, found, machine, logs)
-        run_all([one for one in chosen if one not in FIRST], found, machine, logs)
-    # Commands install what they lack. Who needed it installed it, so what passed before passes with it too.
-    now = gate.machine()
-    if now != machine and gate.files() == found:
-        for one in chosen:
-            if not one.always and one.passed:
-                one.keep(one.key(found, now))
+                run(one, found, logs)
+        run_all([one for one in chosen if one not in FIRST], found, logs)
     say(*clock.table(), *gate.table(chosen), f"All took {time.monotonic() - gate.BEGAN:.0f} s. What each command printed is in {logs}.")
     say(*sizes())
     told = gate.leasts()
     say(*write_counts(told, logs / "counts"))
     fail_what_no_line_fits(chosen, told, not words)
-    is_same = gate.files() == found
-    has_passed = is_green(chosen, is_same)
-    if has_passed and is_same and not words:
-        hand_over("tests")
+    has_passed = is_green(chosen, gate.files() == found)
     for line in gate.what_failed(chosen):
         say(line)
     if words:
