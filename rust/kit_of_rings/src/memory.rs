@@ -1,7 +1,7 @@
 //! Memory for the queues of the rings: a piece of what the caller gives, or of the program's allocator.
 //!
 //! Written by hand, and trusted: the proof of the queues is about Rattle's `Vec`, of which they use no more than is here. Which byte is in
-//! which place of it is proved, so nothing here computes an index. There is no `unsafe`. `rust/tests/wrong-memory` tries wrong bodies, and
+//! which place of it is proved, so nothing here computes an index. There is no `unsafe`. `rust/tests/wrong-kit` tries wrong bodies, and
 //! the tests of this file find each.
 
 #[cfg(feature = "alloc")]
