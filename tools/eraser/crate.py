@@ -248,7 +248,7 @@ def made(
         texts = {name: text_of(name, in_full.get(name, data)) for name, data in found.items()}
         for name, data in found.items():
             text_of(name, data)
-        crates = packages.Crates((root / "crates.txt").read_text(encoding="utf-8"))
+        crates = packages.crates(root)
         told = promises.Promises(root, allow.SHIPS)
         files, dropped = files_of(texts, crates, told, allow)
         listed = manifest(version.result(), {**found, **told.definitions.files}, files, allow)

@@ -1,4 +1,5 @@
 """The package of each emitted crate: its Cargo.toml, and what its root begins with."""
+import pathlib
 from collections.abc import Iterator
 
 import examples
@@ -37,6 +38,10 @@ class Crates:
             elif ":" in line:
                 head, used = line.split(":")
                 self.uses[head.split()[0]], self.about[head.split()[0]] = used.split(), about
+
+
+def crates(root: pathlib.Path) -> Crates:
+    return Crates((root / "crates.txt").read_text(encoding="utf-8"))
 
 
 def package(crate: str) -> str:
