@@ -28,14 +28,16 @@ def package(tool: str) -> str:
     return PACKAGES.get(tool, tool)
 
 
+def need(*words: str) -> bool:
+    """Whether a function of integration/apt finds or installs what it is asked for."""
+    command = ["bash", "-c", '. integration/apt; "$@"', "need", *words]
+    return subprocess.run(command, cwd=TOP, stdout=subprocess.DEVNULL, stderr=subprocess.DEVNULL, check=False).returncode == 0
+
+
 @functools.cache
 def has(tool: str) -> bool:
     """Whether there is a tool, or its package can be installed."""
-    if shutil.which(tool):
-        return True
-    line = '. integration/apt; need "$@"'
-    words = ["bash", "-c", line, "need", tool, package(tool)]
-    return subprocess.run(words, cwd=TOP, stdout=subprocess.DEVNULL, stderr=subprocess.DEVNULL, check=False).returncode == 0
+    return bool(shutil.which(tool)) or need("need", tool, package(tool))
 
 
 def why_not(tools: list[str]) -> str:
