@@ -1741,11 +1741,11 @@ static int uart_find_fifo_size(struct u16550_core_driver *uart, uint8_t *size)
  *
  * Errors
  *
- * U16550_STALLED if patience answered to wait no longer, or after spin_limit unsuccessful polls in
- * a row. What was sent goes on to leave the chip.
+ * U16550_WAIT_ENDED if patience answered to wait no longer, or U16550_STALLED after spin_limit
+ * unsuccessful polls in a row. What was sent goes on to leave the chip.
  *
  * Proved: with the answers of the caller: the transmitter was empty after fewer misses in a row
- * than the limit; or the wait was in vain.
+ * than the limit; or the wait was in vain, and the result tells what ended it.
  */
 static int uart_flush_while(struct u16550_core_driver *uart, struct uart_patience *patience)
 {
@@ -1754,7 +1754,7 @@ static int uart_flush_while(struct u16550_core_driver *uart, struct uart_patienc
         if ((uart_read_lsr(uart) & U16550_LSR_TRANSMITTER_EMPTY) != 0)
             return U16550_OK;
         if (!uart_patience_keep_waiting(patience))
-            return U16550_STALLED;
+            return U16550_WAIT_ENDED;
     }
     return U16550_STALLED;
 }
@@ -2310,18 +2310,18 @@ uart_receive_bytes_exact(struct u16550_core_driver *uart, uint8_t *buffer, size_
  * Proved: a wait for one byte, and the answers of the caller: it was received after fewer misses
  * in a row than the limit; or the wait was in vain.
  */
-static inline bool
+static inline int
 uart_receive_one_while(struct u16550_core_driver *uart, struct uart_patience *caller, uint8_t *byte)
 {
     uint64_t spin_limit = uart->spin_limit;
     /* The limit bounds the wait even if the caller never has enough. */
     for (uint64_t poll = 0; poll < spin_limit; poll++) {
         if (uart_try_receive_byte(uart, byte))
-            return true;
+            return U16550_OK;
         if (!uart_patience_keep_waiting(caller))
-            return false;
+            return U16550_WAIT_ENDED;
     }
-    return false;
+    return U16550_STALLED;
 }
 
 /*
@@ -2337,12 +2337,13 @@ uart_receive_one_while(struct u16550_core_driver *uart, struct uart_patience *ca
  *
  * Errors
  *
- * U16550_STALLED if patience answered to wait no longer, or after spin_limit unsuccessful polls in
- * a row. The first *stalled_at slots have the bytes that were received, and the other slots are
- * unchanged: a further call fills them.
+ * U16550_WAIT_ENDED if patience answered to wait no longer, or U16550_STALLED after spin_limit
+ * unsuccessful polls in a row. The first *stalled_at slots have the bytes that were received, and
+ * the other slots are unchanged: a further call fills them.
  *
  * Proved: with the answers of the caller: the slots are filled, each byte after its own wait; or
- * those before the one whose wait ended in vain, as many as *stalled_at says.
+ * those before the one whose wait ended in vain, as many as *stalled_at says; the result tells
+ * what ended that wait.
  */
 static int
 uart_receive_bytes_while(struct u16550_core_driver *uart, uint8_t *buffer, size_t buffer_len,
@@ -2350,9 +2351,10 @@ uart_receive_bytes_while(struct u16550_core_driver *uart, uint8_t *buffer, size_
 {
     for (size_t done = 0; done < buffer_len; done++) {
         uint8_t byte;
-        if (!uart_receive_one_while(uart, patience, &byte)) {
+        int status = uart_receive_one_while(uart, patience, &byte);
+        if (status != U16550_OK) {
             *stalled_at = done;
-            return U16550_STALLED;
+            return status;
         }
         buffer[done] = byte;
     }
@@ -2669,18 +2671,18 @@ uart_send_bytes_exact(struct u16550_core_driver *uart, const uint8_t *bytes, siz
  * Proved: a wait for room, and the answers of the caller: a check succeeded after fewer misses in
  * a row than the limit; or the wait was in vain.
  */
-static inline bool
+static inline int
 uart_wait_to_send_while(struct u16550_core_driver *uart, struct uart_patience *patience)
 {
     uint64_t spin_limit = uart->spin_limit;
     /* The limit bounds the wait even if the caller never has enough. */
     for (uint64_t turn = 0; turn < spin_limit; turn++) {
         if (uart_ready_to_send(uart) == U16550_OK)
-            return true;
+            return U16550_OK;
         if (!uart_patience_keep_waiting(patience))
-            return false;
+            return U16550_WAIT_ENDED;
     }
-    return false;
+    return U16550_STALLED;
 }
 
 /*
@@ -2693,12 +2695,13 @@ uart_wait_to_send_while(struct u16550_core_driver *uart, struct uart_patience *p
  *
  * Errors
  *
- * U16550_STALLED if patience answered to wait no longer, or after spin_limit unsuccessful checks
- * in a row. The first *stalled_at bytes were written to the chip, and the others were not: a
- * further call sends them.
+ * U16550_WAIT_ENDED if patience answered to wait no longer, or U16550_STALLED after spin_limit
+ * unsuccessful checks in a row. The first *stalled_at bytes were written to the chip, and the
+ * others were not: a further call sends them.
  *
  * Proved: with the answers of the caller: all bytes, burst by burst, each burst after its own
- * wait; or those before the burst whose wait ended in vain, as many as *stalled_at says.
+ * wait; or those before the burst whose wait ended in vain, as many as *stalled_at says; the
+ * result tells what ended that wait.
  */
 static int
 uart_send_bytes_while(struct u16550_core_driver *uart, const uint8_t *bytes, size_t bytes_len,
@@ -2706,9 +2709,10 @@ uart_send_bytes_while(struct u16550_core_driver *uart, const uint8_t *bytes, siz
 {
     size_t done = 0;
     while (done < bytes_len) {
-        if (!uart_wait_to_send_while(uart, patience)) {
+        int error = uart_wait_to_send_while(uart, patience);
+        if (error != U16550_OK) {
             *stalled_at = done;
-            return U16550_STALLED;
+            return error;
         }
         done += uart_write_burst(uart, &bytes[done], bytes_len - done);
     }
@@ -9255,6 +9259,8 @@ const char *u16550_text(int status)
         return "no byte was received";
     case U16550_STALLED:
         return "a wait came to the spin limit";
+    case U16550_WAIT_ENDED:
+        return "the caller waits no longer";
     case U16550_NON_INTEGER_BAUD_RATE:
         return "the divisor gives no whole baud rate";
     case U16550_RING_BAD_CAPACITY:

@@ -105,7 +105,10 @@ enum u16550_send_error {
 
 enum u16550_receive_error { U16550_RECEIVE_NO_DATA = 60 };
 
-enum u16550_stalled_error { U16550_STALLED = 70 }; /* a wait came to the spin limit */
+enum u16550_stalled_error {
+    U16550_STALLED = 70,          /* a wait came to the spin limit */
+    U16550_WAIT_ENDED = 71        /* keep_waiting returned 0 */
+};
 
 enum u16550_baud_rate_error { U16550_NON_INTEGER_BAUD_RATE = 80 }; /* the divisor is 0, or gives no whole baud rate */
 
@@ -1213,18 +1216,20 @@ int u16550_send_bytes_exact(struct u16550 *uart, const uint8_t *buffer, size_t l
 
 /*
  * The same as the two above, and wait no longer than keep_waiting wants: it gets the context after each unsuccessful
- * poll, and the wait ends if it returns 0. So a wait can end at a time, by whatever clock there is. The spin limit ends it too.
- * keep_waiting must not be null, and a call over this driver from it returns U16550_BUSY.
+ * poll, and the wait ends by U16550_WAIT_ENDED if it returns 0. So a wait can end at a time, by whatever clock there is. The spin limit
+ * ends it too, by U16550_STALLED. keep_waiting must not be null, and a call over this driver from it returns U16550_BUSY.
  */
 /*
  * Proved: with the answers of the caller: the slots are filled, each byte after its own wait; or
- * those before the one whose wait ended in vain, as many as *done says.
+ * those before the one whose wait ended in vain, as many as *done says; the result tells what
+ * ended that wait.
  */
 int u16550_receive_bytes_while(struct u16550 *uart, uint8_t *buffer, size_t len, uint8_t (*keep_waiting)(void *context),
                                void *context, size_t *done);
 /*
  * Proved: with the answers of the caller: all bytes, burst by burst, each burst after its own
- * wait; or those before the burst whose wait ended in vain, as many as *done says.
+ * wait; or those before the burst whose wait ended in vain, as many as *done says; the result
+ * tells what ended that wait.
  */
 int u16550_send_bytes_while(struct u16550 *uart, const uint8_t *buffer, size_t len, uint8_t (*keep_waiting)(void *context),
                             void *context, size_t *done);
@@ -1232,7 +1237,7 @@ int u16550_send_bytes_while(struct u16550 *uart, const uint8_t *buffer, size_t l
 /* The same wait as u16550_flush, and no longer than keep_waiting wants. */
 /*
  * Proved: with the answers of the caller: the transmitter was empty after fewer misses in a row
- * than the limit; or the wait was in vain.
+ * than the limit; or the wait was in vain, and the result tells what ended it.
  */
 int u16550_flush_while(struct u16550 *uart, uint8_t (*keep_waiting)(void *context), void *context);
 

@@ -1289,7 +1289,7 @@ static void waits_in_time(void)
     /* The second poll is the last, and the spin limit is three. */
     d.is_stuck = 1;
     accesses = d.accesses;
-    IS(u16550_send_bytes_while(&uart, text, 20, is_before, &deadline, &done), U16550_STALLED);
+    IS(u16550_send_bytes_while(&uart, text, 20, is_before, &deadline, &done), U16550_WAIT_ENDED);
     IS(done, 0);
     IS(deadline.now, 2);
     IS(deadline.inside, U16550_BUSY);
@@ -1302,7 +1302,7 @@ static void waits_in_time(void)
     d.is_stuck = 0;
     d.room = 16;
     deadline.end = 0;
-    IS(u16550_send_bytes_while(&uart, text, 20, is_before, &deadline, &done), U16550_STALLED);
+    IS(u16550_send_bytes_while(&uart, text, 20, is_before, &deadline, &done), U16550_WAIT_ENDED);
     IS(done, 16);
     accesses = d.accesses;
     MISUSE(u16550_send_bytes_while(&uart, text, 20, NULL, &deadline, &done), U16550_NULL_POINTER);
@@ -1324,7 +1324,7 @@ static void waits_in_time_for_bytes(void)
     /* A byte, then two polls, of which the second is the last; the spin limit is three. */
     device_arrive(&d, "c");
     accesses = d.accesses;
-    IS(u16550_receive_bytes_while(&uart, slots, 4, is_before, &deadline, &done), U16550_STALLED);
+    IS(u16550_receive_bytes_while(&uart, slots, 4, is_before, &deadline, &done), U16550_WAIT_ENDED);
     IS(done, 1);
     BYTES(slots, "cb\xee\xee");
     IS(deadline.now, 2);
@@ -1348,7 +1348,7 @@ static void waits_in_time_for_an_empty_transmitter(void)
     /* The second poll is the last, and the spin limit is three. */
     d.is_stuck = 1;
     accesses = d.accesses;
-    IS(u16550_flush_while(&uart, is_before, &deadline), U16550_STALLED);
+    IS(u16550_flush_while(&uart, is_before, &deadline), U16550_WAIT_ENDED);
     IS(deadline.now, 2);
     IS(deadline.inside, U16550_BUSY);
     IS(d.accesses, accesses + 2);
@@ -2725,7 +2725,7 @@ static void texts(void)
 {
     static const int known[] = {
         0, -1, -2, -3, -4, -5, -6, -7, -8, -9, -10, -11, -12, -13, -14, 10, 11, 12, 13, 14, 20, 21, 22, 23, 30, 31, 32, 33, 34, 40, 41, 42, 50,
-        51, 60, 70, 80, 90, 91, 92, 93, 94, 100, 101, 102, 110, 111, 120, 121, 122, 130, 140, 141, 142, 143, 144, 145, 150, 151, 160, 161, 170,
+        51, 60, 70, 71, 80, 90, 91, 92, 93, 94, 100, 101, 102, 110, 111, 120, 121, 122, 130, 140, 141, 142, 143, 144, 145, 150, 151, 160, 161, 170,
         171, 172,
     };
     size_t count = sizeof known / sizeof known[0], i, j;

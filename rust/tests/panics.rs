@@ -16,7 +16,7 @@ use uart_16550::native::{
     AttachError, BaudRate, ByteReceiveError, ByteSendError, Config, ConfigRegisterDump,
     ConfigurationError, FifoAction, FifoSize, FifoSizeError, FifosOffError, FrameError, Setup, DriverState, InitError, InvalidAddressError, InvalidDivisorError, LoopbackError,
     NearestDivisorError, NonIntegerBaudRateError, NonIntegerDivisorError, Received,
-    RemoteReadyToReceiveError, StalledError, Uart16550, Uart16550Tty, Uart16550TtyError,
+    RemoteReadyToReceiveError, StalledError, Uart16550, Uart16550Tty, Uart16550TtyError, WaitEnd, WaitError,
 };
 use core::task::{Context, Poll};
 use uart_16550::emergency::EmergencyConsole;
@@ -150,9 +150,9 @@ calls! {
     level_characters(level: FifoTriggerLevel, size: FifoSize) -> usize { level.characters(size) }
     size_largest_up_to(characters: usize) -> Option<FifoSize> { FifoSize::largest_up_to(characters) }
     design_ware_fifo_size_of(cpr: u32) -> Option<FifoSize> { backend::fifo_size_of(cpr) }
-    uart_receive_bytes_while(uart: &mut Uart, buffer: &mut [u8]) -> Result<(), StalledError> { uart.receive_bytes_while(buffer, &mut || device_read(8) != 0) }
-    uart_flush_while(uart: &mut Uart) -> Result<(), StalledError> { uart.flush_while(&mut || device_read(8) != 0) }
-    uart_send_bytes_while(uart: &mut Uart, bytes: &[u8]) -> Result<(), StalledError> { uart.send_bytes_while(bytes, &mut || device_read(8) != 0) }
+    uart_receive_bytes_while(uart: &mut Uart, buffer: &mut [u8]) -> Result<(), WaitError> { uart.receive_bytes_while(buffer, &mut || device_read(8) != 0) }
+    uart_flush_while(uart: &mut Uart) -> Result<(), WaitError> { uart.flush_while(&mut || device_read(8) != 0) }
+    uart_send_bytes_while(uart: &mut Uart, bytes: &[u8]) -> Result<(), WaitError> { uart.send_bytes_while(bytes, &mut || device_read(8) != 0) }
 
     io_read(uart: &mut Uart, buffer: &mut [u8]) -> Result<usize, StalledError> { Read::read(uart, buffer) }
     io_write(uart: &mut Uart, buffer: &[u8]) -> Result<usize, StalledError> { Write::write(uart, buffer) }
@@ -222,7 +222,7 @@ calls! {
     half_duplex_try_receive_byte(bus: &mut HalfDuplex<Device>) -> Result<u8, ByteReceiveError> { bus.try_receive_byte() }
     half_duplex_try_receive_with_errors(bus: &mut HalfDuplex<Device>) -> Result<Received, ByteReceiveError> { bus.try_receive_with_errors() }
     half_duplex_receive_bytes_exact(bus: &mut HalfDuplex<Device>, buffer: &mut [u8]) -> Result<(), StalledError> { bus.receive_bytes_exact(buffer) }
-    half_duplex_receive_bytes_while(bus: &mut HalfDuplex<Device>, buffer: &mut [u8]) -> Result<(), StalledError> { bus.receive_bytes_while(buffer, &mut || device_read(8) != 0) }
+    half_duplex_receive_bytes_while(bus: &mut HalfDuplex<Device>, buffer: &mut [u8]) -> Result<(), WaitError> { bus.receive_bytes_while(buffer, &mut || device_read(8) != 0) }
     half_duplex_receive_echo(bus: &mut HalfDuplex<Device>, sent: &[u8]) -> Result<(), EchoError> { bus.receive_echo(sent) }
     half_duplex_lsr(bus: &mut HalfDuplex<Device>) -> LSR { bus.lsr() }
     half_duplex_ring_new(ring: Ring, direction: Direction) -> Result<HalfDuplexRing<Device>, Refused<Ring, BusyError>> { HalfDuplexRing::new(ring, direction) }
@@ -428,6 +428,8 @@ texts! {
     text_of_remote: RemoteReadyToReceiveError;
     text_of_loopback: LoopbackError;
     text_of_stalled: StalledError;
+    text_of_wait: WaitError;
+    text_of_wait_end: WaitEnd;
     text_of_attach: AttachError;
     text_of_configuration: ConfigurationError;
     text_of_design_ware: DesignWareFault;

@@ -99,7 +99,8 @@ NUMBERS: list[Numbers] = [
         Number("RECEIVE_NO_DATA", 60, "no byte was received"),
     ]),
     Numbers("stalled_error", "", [
-        Number("STALLED", 70, "a wait came to the spin limit", note=SAME, of=("StalledError", "SendError.Stalled")),
+        Number("STALLED", 70, "a wait came to the spin limit", note=SAME, of=("StalledError", "SendError.Stalled", "WaitEnd.SpinLimit")),
+        Number("WAIT_ENDED", 71, "the caller waits no longer", note="keep_waiting returned 0", of=("WaitEnd.Patience",)),
     ]),
     Numbers("baud_rate_error", "", [
         Number("NON_INTEGER_BAUD_RATE", 80, "the divisor gives no whole baud rate", note="the divisor is 0, or gives no whole baud rate",
@@ -693,8 +694,8 @@ spin limit. *done is how many bytes were done, also after a stall. done may be n
         ]),
         Group("""
 The same as the two above, and wait no longer than keep_waiting wants: it gets the context after each unsuccessful
-poll, and the wait ends if it returns 0. So a wait can end at a time, by whatever clock there is. The spin limit ends it too.
-keep_waiting must not be null, and a call over this driver from it returns U16550_BUSY.""", [
+poll, and the wait ends by U16550_WAIT_ENDED if it returns 0. So a wait can end at a time, by whatever clock there is. The spin limit
+ends it too, by U16550_STALLED. keep_waiting must not be null, and a call over this driver from it returns U16550_BUSY.""", [
             Call("receive_bytes_while", "struct u16550 *uart, uint8_t *buffer, size_t len, uint8_t (*keep_waiting)(void *context), "
                  "void *context, size_t *done", stalls="done"),
             Call("send_bytes_while", "struct u16550 *uart, const uint8_t *buffer, size_t len, uint8_t (*keep_waiting)(void *context), "

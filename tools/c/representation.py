@@ -197,8 +197,8 @@ class Representation:
         return self.failures[name]
 
     def gives_back(self, of: Type) -> bool:
-        """Whether an error has what was given beside its cause: a pair, or what a constructor refused."""
-        return self.plain_name(of).startswith("uart_pair_of_") or of[1].split("::")[-1] == "Refused"
+        """Whether an error has something beside its cause: a pair, what a constructor refused, or how much was done before a wait."""
+        return self.plain_name(of).startswith("uart_pair_of_") or of[1].split("::")[-1] in ("Refused", "WaitError")
 
     def is_silent(self, of: Type) -> bool:
         """Whether nobody reads the parts of an error of one kind."""

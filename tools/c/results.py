@@ -131,6 +131,11 @@ def form_of(types: Representation, of: Type, function: str, is_size: bool) -> Fo
     whole, ok = types.c(of).text(), types.ok
     value = out(("value",), kind.value, name_of(types, kind.value, function)) if kind.kind != "status" else []
     if kind.kind == "option" and kind.flag == "is_error":
+        if types.gives_back(kind.value):
+            (first, given), (second, _) = types.fields(kind.value)
+            done = c.Number(64, c.Width(types.is_size(kind.value, 0)))
+            out_of_error = Out(("error", first), name_of_error(kind.value), done, given)
+            return Form(whole, INT, ("error", second), (out_of_error,), ok, "", ("is_error",))
         return Form(whole, INT, ("is_error",), tuple(out(("error",), kind.value, name_of_error(kind.value))), ok, types.failure(kind.value))
     if kind.kind == "option":
         return Form(whole, c.BOOL, ("is_some",), tuple(value), ok) if value else None
@@ -167,7 +172,7 @@ def name_of(types: Representation, of: Type, function: str) -> str:
 
 def name_of_error(of: Type) -> str:
     """What an error of one kind says."""
-    return {"StalledError": "stalled_at", "UnnotedError": "unnoted"}.get(of[1].split("::")[-1], "error")
+    return {"StalledError": "stalled_at", "WaitError": "stalled_at", "UnnotedError": "unnoted"}.get(of[1].split("::")[-1], "error")
 
 
 def is_maker(one: c.Expression | None) -> bool:

@@ -152,7 +152,7 @@ static int uart_find_and_reset(struct u16550_core_driver *uart,
 static int uart_find_fifo_size(struct u16550_core_driver *uart, uint8_t *size);
 
 /*@
-  ensures returns: \result == U16550_OK || \result == U16550_STALLED;
+  ensures returns: \result == U16550_OK || \result == U16550_STALLED || \result == U16550_WAIT_ENDED;
 */
 static int uart_flush_while(struct u16550_core_driver *uart, struct uart_patience *patience);
 
@@ -207,13 +207,14 @@ static int uart_receive_bytes_exact(struct u16550_core_driver *uart, uint8_t *bu
     size_t buffer_len, size_t *stalled_at);
 
 /*@
-  ensures written: \result ==> \initialized(byte);
+  ensures returns: \result == U16550_OK || \result == U16550_STALLED || \result == U16550_WAIT_ENDED;
+  ensures written: \result == U16550_OK ==> \initialized(byte);
 */
-static bool uart_receive_one_while(struct u16550_core_driver *uart, struct uart_patience *caller,
+static int uart_receive_one_while(struct u16550_core_driver *uart, struct uart_patience *caller,
     uint8_t *byte);
 
 /*@
-  ensures returns: \result == U16550_OK || \result == U16550_STALLED;
+  ensures returns: \result == U16550_OK || \result == U16550_STALLED || \result == U16550_WAIT_ENDED;
   ensures written: \result != U16550_OK ==> \initialized(stalled_at);
 */
 static int uart_receive_bytes_while(struct u16550_core_driver *uart, uint8_t *buffer,
@@ -258,7 +259,12 @@ static int uart_send_bytes_exact(struct u16550_core_driver *uart, const uint8_t 
     size_t bytes_len, size_t *stalled_at);
 
 /*@
-  ensures returns: \result == U16550_OK || \result == U16550_STALLED;
+  ensures returns: \result == U16550_OK || \result == U16550_STALLED || \result == U16550_WAIT_ENDED;
+*/
+static int uart_wait_to_send_while(struct u16550_core_driver *uart, struct uart_patience *patience);
+
+/*@
+  ensures returns: \result == U16550_OK || \result == U16550_STALLED || \result == U16550_WAIT_ENDED;
   ensures written: \result != U16550_OK ==> \initialized(stalled_at);
 */
 static int uart_send_bytes_while(struct u16550_core_driver *uart, const uint8_t *bytes,
@@ -1112,7 +1118,7 @@ int (u16550_receive_bytes_exact)(struct u16550 *uart, uint8_t *buffer, size_t le
 int (u16550_send_bytes_exact)(struct u16550 *uart, const uint8_t *buffer, size_t len, size_t *done);
 
 /*@
-  ensures returns: U16550_OTHER_LAYOUT <= \result <= U16550_OK || \result == U16550_STALLED;
+  ensures returns: U16550_OTHER_LAYOUT <= \result <= U16550_OK || \result == U16550_STALLED || \result == U16550_WAIT_ENDED;
   ensures misuse: \result < U16550_OK ==> uart_was_reached == \old(uart_was_reached);
   ensures written: \result >= U16550_OK && done != \null ==> \initialized(done);
 */
@@ -1120,7 +1126,7 @@ int (u16550_receive_bytes_while)(struct u16550 *uart, uint8_t *buffer, size_t le
     uint8_t (*keep_waiting)(void *context), void *context, size_t *done);
 
 /*@
-  ensures returns: U16550_OTHER_LAYOUT <= \result <= U16550_OK || \result == U16550_STALLED;
+  ensures returns: U16550_OTHER_LAYOUT <= \result <= U16550_OK || \result == U16550_STALLED || \result == U16550_WAIT_ENDED;
   ensures misuse: \result < U16550_OK ==> uart_was_reached == \old(uart_was_reached);
   ensures written: \result >= U16550_OK && done != \null ==> \initialized(done);
 */
@@ -1128,7 +1134,7 @@ int (u16550_send_bytes_while)(struct u16550 *uart, const uint8_t *buffer, size_t
     uint8_t (*keep_waiting)(void *context), void *context, size_t *done);
 
 /*@
-  ensures returns: U16550_OTHER_LAYOUT <= \result <= U16550_OK || \result == U16550_STALLED;
+  ensures returns: U16550_OTHER_LAYOUT <= \result <= U16550_OK || \result == U16550_STALLED || \result == U16550_WAIT_ENDED;
   ensures misuse: \result < U16550_OK ==> uart_was_reached == \old(uart_was_reached);
 */
 int (u16550_flush_while)(struct u16550 *uart, uint8_t (*keep_waiting)(void *context),

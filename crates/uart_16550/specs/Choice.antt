@@ -8,7 +8,8 @@ use Rattle.uart_16550.specs.Grammar.{Language}
 use Rattle.uart_16550.specs.Driver.{Did, Doing, Fields, Made, backend_of, fields}
 use Rattle.uart_16550.specs.Receive.{Receives, ReceivesWithErrors, ReceivesExact, filled}
 use Rattle.uart_spec.specs.declared.received.Received.{Received}
-use Rattle.uart_16550.specs.Patience.{ReceivesWhile}
+use Rattle.uart_16550.specs.Patience.{ReceivesWhile, filled_while}
+use Rattle.uart_16550.specs.declared.patience.WaitError.{WaitError}
 use Rattle.uart_16550.specs.Io.{Reads, got}
 use Rattle.uart_16550.specs.declared.driver.Uart16550.{Uart16550}
 
@@ -116,10 +117,10 @@ ReceivesExactInto old new result s l =
     × ReceivesExact (length old) (filled result new) result s l
 
 -- what `receive_bytes_while` does to its slots, with the answers of its caller and its result
-abbrev pub ReceivesWhileInto : {T : Type 0} → (old new : List ℕ) → List Bool → Result T StalledError → Language
+abbrev pub ReceivesWhileInto : {T : Type 0} → (old new : List ℕ) → List Bool → Result T WaitError → Language
 ReceivesWhileInto old new said result s l =
     (length new ≡ length old) × IfErr result (λ e. drop e.done new ≡ drop e.done old)
-    × ReceivesWhile (length old) (filled result new) said result s l
+    × ReceivesWhile (length old) (filled_while result new) said result s l
 
 -- what a call does whose caller, asked again and again, would give these answers
 abbrev pub AsAnswered : (answers : List Bool) → (List Bool → Language) → Language

@@ -42,6 +42,7 @@ use Rattle.uart_16550.specs.Tty.{Starts}
 use Rattle.uart_16550.specs.Choice.{ReceivesInto, ReceivesWithErrorsInto, ReceivesExactInto, ReadsInto}
 use Rattle.uart_16550.specs.Choice.{AsAnswered, ReceivesWhileInto}
 use Rattle.uart_16550.specs.Patience.{SendsWhile, FlushesWhile}
+use Rattle.uart_16550.specs.declared.patience.WaitError.{WaitError}
 use Rattle.uart_spec.specs.declared.dump.ConfigRegisterDump.{ConfigRegisterDump}
 
 -- The calls are in a table, because a clause cannot speak of every language. `init` is in it with a computable
@@ -98,9 +99,9 @@ SavingOutcome (send_bytes bytes) = ℕ
 SavingOutcome (send_burst size bytes) = ℕ
 SavingOutcome (send_gathered urgent first second) = ℕ
 SavingOutcome (send_bytes_exact bytes) = Result (Unit {0}) StalledError
-SavingOutcome (send_bytes_while bytes answers) = Result (Unit {0}) StalledError
-SavingOutcome (receive_bytes_while slots answers) = Result (Unit {0}) StalledError × List ℕ
-SavingOutcome (flush_while answers) = Result (Unit {0}) StalledError
+SavingOutcome (send_bytes_while bytes answers) = Result (Unit {0}) WaitError
+SavingOutcome (receive_bytes_while slots answers) = Result (Unit {0}) WaitError × List ℕ
+SavingOutcome (flush_while answers) = Result (Unit {0}) WaitError
 SavingOutcome (read slots) = Result ℕ StalledError × List ℕ
 SavingOutcome (write bytes) = Result ℕ StalledError
 SavingOutcome flush = Result (Unit {0}) StalledError

@@ -56,7 +56,8 @@ pub fn calls_have_one_outcome<B: Backend>()
 {}
 
 /// `send_bytes_while`, `receive_bytes_while` and `flush_while`, whose caller keeps waiting each
-/// time it is asked, do the same as `send_bytes_exact`, `receive_bytes_exact` and `flush`.
+/// time it is asked, do the same as `send_bytes_exact`, `receive_bytes_exact` and `flush`. Where
+/// those stall, the error says that the spin limit ended the wait.
 #[tactic(auto, using(crate::proofs::Waiting::endless))]
 pub fn endless_patience_is_exact()
     ensures sends { IsExactIfEndless }

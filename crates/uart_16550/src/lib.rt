@@ -32,7 +32,7 @@ mod pio;
 mod tty;
 
 pub use driver::{DEFAULT_SPIN_LIMIT, DriverState, Uart16550};
-pub use patience::Patience;
+pub use patience::{Patience, WaitEnd, WaitError};
 pub use tty::Uart16550Tty;
 pub use uart_spec as spec;
 pub use uart_spec::{

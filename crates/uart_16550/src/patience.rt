@@ -1,5 +1,29 @@
-//! How long a wait goes on.
+//! How long a wait goes on, and what ended it.
 ghost use Rattle.std.specs.Prelude.{Bool};
+
+use thiserror::Error;
+
+/// What ended a wait that asks its caller after each check that fails.
+#[derive(Clone, Copy, Debug, PartialEq, Eq, Hash, Drop, Error)]
+pub enum WaitEnd {
+    /// The spin limit: that many checks in a row failed, and the caller would have waited on.
+    #[error("the device stalled")]
+    SpinLimit,
+    /// The caller, who answered to wait no longer. At the check that reaches the spin limit the
+    /// caller is asked too, so the answer decides there.
+    #[error("the caller waits no longer")]
+    Patience,
+}
+
+/// A wait that asks its caller ended in vain.
+#[derive(Clone, Copy, Debug, PartialEq, Eq, Hash, Drop, Error)]
+#[error("{ended_by}, after {done} bytes")]
+pub struct WaitError {
+    /// The number of bytes that the call had sent or received before the wait.
+    pub done: usize,
+    /// What ended the wait.
+    pub ended_by: WaitEnd,
+}
 
 /// How long a wait goes on: until a time, until a key is pressed, or whatever else its caller
 /// knows.
@@ -11,6 +35,12 @@ ghost use Rattle.std.specs.Prelude.{Bool};
 /// In Rattle an implementation also defines a relation: from which state it may answer what, and
 /// in which state it is then.
 pub trait Patience {
+    // considered: a patience by value, and an implementation for each `&mut P`, as of `Read`. In
+    //   Rattle a value of a type parameter that was moved into a call has no state after it: the
+    //   contract could say that the caller was asked, and not in which state it is then. And in
+    //   Rust `&mut F` is a function wherever `F` is one, so that implementation and the one for
+    //   each `FnMut() -> bool` exclude each other.
+
     // Asked in the first state, it may answer this and be in the second state.
     ghost answers: { Self → Bool → Self → Type 0 };
 

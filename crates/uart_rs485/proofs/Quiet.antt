@@ -14,6 +14,9 @@ use Rattle.uart_16550.specs.Grammar.{Language, Settings, Only, Then, InOrder, Ti
 use Rattle.uart_16550.specs.Io.{Flushes}
 use Rattle.uart_16550.specs.Patience.{ByteAfter, InVain, ReceivesWhile}
 use Rattle.uart_16550.specs.Patience.{Awaited as ReceivedAfter}
+use Rattle.uart_16550.specs.declared.patience.WaitEnd.{WaitEnd}
+use Rattle.uart_16550.specs.declared.patience.WaitEnd.TheVariants.{SpinLimit, Patience}
+use Rattle.uart_16550.specs.declared.patience.WaitError.{WaitError}
 use Rattle.uart_16550.specs.Receive.{Awaited, Hit, HitWithErrors, Miss, ReadyToReceive, Receives, ReceivesExact, ReceivesWithErrors}
 use Rattle.uart_16550.specs.Receive.{TryReceive, TryReceiveWithErrors}
 use Rattle.uart_16550.specs.Transmit.{Burst, LinesAllow, Round, SendHit, SendMiss, Sends, SendsExact, data_writes}
@@ -188,13 +191,13 @@ byte_after_quiet : (sends : Bool) (byte : ReceivedAfter ℕ) → IsQuietAll send
 byte_after_quiet sends byte s l (few, t) =
     then_quiet sends _ _ (times_quiet sends byte.misses Miss (missed_quiet sends)) (received_quiet sends byte.item) s l t
 
-vain_quiet : (sends : Bool) (said : List Bool) → IsQuietAll sends (InVain Miss said)
-vain_quiet sends said s l (inl (is, t)) = all_quiet sends Miss (missed_quiet sends) s l t
-vain_quiet sends said s l (inr (n, few, is, t)) = times_quiet sends (n + 1) Miss (missed_quiet sends) s l t
+vain_quiet : (sends : Bool) (said : List Bool) (end : WaitEnd) → IsQuietAll sends (InVain Miss said end)
+vain_quiet sends said SpinLimit s l (is, t) = all_quiet sends Miss (missed_quiet sends) s l t
+vain_quiet sends said Patience s l (n, few, is, t) = times_quiet sends (n + 1) Miss (missed_quiet sends) s l t
 
-pub receives_while_quiet : (sends : Bool) (slots : ℕ) (bytes : List ℕ) (said : List Bool) (result : Result (Unit {0}) StalledError) →
+pub receives_while_quiet : (sends : Bool) (slots : ℕ) (bytes : List ℕ) (said : List Bool) (result : Result (Unit {0}) WaitError) →
     IsQuietAll sends (ReceivesWhile slots bytes said result)
 receives_while_quiet sends slots bytes said (Ok x) s l (received, is, all, asked, t) =
     order_quiet sends ByteAfter received (byte_after_quiet sends) s l t
 receives_while_quiet sends slots bytes said (Err e) s l (received, last, is, fewer, done, asked, t) =
-    then_quiet sends _ _ (order_quiet sends ByteAfter received (byte_after_quiet sends)) (vain_quiet sends last) s l t
+    then_quiet sends _ _ (order_quiet sends ByteAfter received (byte_after_quiet sends)) (vain_quiet sends last e.ended_by) s l t

@@ -15,6 +15,7 @@ use Rattle.uart_16550.specs.Patience.{ReceivesWhile}
 use Rattle.uart_16550.specs.Receive.{ReadyToReceive, TryReceive, TryReceiveWithErrors, Receives, ReceivesWithErrors}
 use Rattle.uart_16550.specs.Receive.{ReceivesExact}
 use Rattle.uart_16550.specs.Status.{TakesLsr}
+use Rattle.uart_16550.specs.declared.patience.WaitError.{WaitError}
 use Rattle.uart_rs485.specs.Bus.{BusDoing, BusFields, GivesUp, HearsEcho, OnDriver, SendsBytes, SendsBytesExact, Stays}
 use Rattle.uart_rs485.specs.Bus.{TriesToFinish, Turns, unchanged}
 use Rattle.uart_rs485.specs.Directions.{drives_itself, empty_after, sends_after, sends_by, turned}
@@ -83,7 +84,7 @@ DoesCall (receive_bytes_exact slots) f l after =
     (bytes : List ℕ) × (result : Result (Unit {0}) StalledError)
     × OnDriver (Saving (ReceivesExact slots bytes result)) unchanged f l after
 DoesCall (receive_bytes_while slots) f l after =
-    (bytes : List ℕ) × (said : List Bool) × (result : Result (Unit {0}) StalledError)
+    (bytes : List ℕ) × (said : List Bool) × (result : Result (Unit {0}) WaitError)
     × OnDriver (Saving (ReceivesWhile slots bytes said result)) unchanged f l after
 DoesCall (receive_echo sent) f l after =
     (result : Result (Unit {0}) EchoError) × OnDriver (Saving (HearsEcho sent result)) unchanged f l after

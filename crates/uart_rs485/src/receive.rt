@@ -1,7 +1,7 @@
 //! The calls that receive. They write no register, and leave the direction.
 ghost use Rattle.std.specs.Prelude.{◌≡◌, ◌≤◌, length, take, drop, IfErr};
 ghost use Rattle.uart_16550.specs.Driver.{Saving};
-ghost use Rattle.uart_16550.specs.Patience.{ReceivesWhile};
+ghost use Rattle.uart_16550.specs.Patience.{ReceivesWhile, filled_while};
 ghost use Rattle.uart_16550.specs.Receive.{ReadyToReceive, TryReceive, Receives};
 ghost use Rattle.uart_16550.specs.Receive.{TryReceiveWithErrors, ReceivesWithErrors};
 ghost use Rattle.uart_16550.specs.Receive.{ReceivesExact, filled};
@@ -9,8 +9,8 @@ ghost use Rattle.uart_rs485.specs.Bus.{BusDid, BusDidWhile, HearsEcho, OnDriver,
 
 use crate::bus::HalfDuplex;
 use crate::errors::EchoError;
-use uart_16550::Patience;
 use uart_16550::backend::Backend;
+use uart_16550::{Patience, WaitError};
 use uart_spec::{ByteReceiveError, Received, StalledError};
 
 impl<B: Backend> HalfDuplex<B> {
@@ -187,9 +187,9 @@ impl<B: Backend> HalfDuplex<B> {
     ///
     /// # Errors
     ///
-    /// `StalledError` if `patience` answered to wait no longer, or after `spin_limit` unsuccessful
-    /// polls in a row. The first `done` slots have the bytes that were received, and the other
-    /// slots are unchanged: a further call fills them.
+    /// `WaitError` if `patience` answered to wait no longer, or after `spin_limit` unsuccessful
+    /// polls in a row: `ended_by` tells which. The first `done` slots have the bytes that were
+    /// received, and the other slots are unchanged: a further call fills them.
     ///
     /// # Examples
     ///
@@ -201,9 +201,9 @@ impl<B: Backend> HalfDuplex<B> {
         &mut self,
         buffer: &mut [u8],
         patience: &mut P,
-    ) -> Result<(), StalledError>
+    ) -> Result<(), WaitError>
         ensures made { BusDidWhile P.answers B.step (λ said. OnDriver (Saving (ReceivesWhile
-            (length buffer.old) (filled result buffer.new) said result)) unchanged)
+            (length buffer.old) (filled_while result buffer.new) said result)) unchanged)
             patience.old patience.new self.old self.new }
         ensures rest { IfErr result (λ e. drop e.done buffer.new ≡ drop e.done buffer.old) }
     {

@@ -17,6 +17,9 @@ use Rattle.uart_spec.specs.declared.registers.line_status.TheConstants.LSR
 use Rattle.uart_spec.specs.declared.registers.offsets.TheConstants as offsets
 use Rattle.uart_16550.specs.Patience.{Awaited, ByteAfter, FlushesWhile, InVain, ReceivesWhile, RoundAfter, SendsWhile, ShowsEmpty}
 use Rattle.uart_16550.specs.Patience.{items_of, keeps_waiting, misses_of}
+use Rattle.uart_16550.specs.declared.patience.WaitEnd.{WaitEnd}
+use Rattle.uart_16550.specs.declared.patience.WaitEnd.TheVariants.{SpinLimit, Patience}
+use Rattle.uart_16550.specs.declared.patience.WaitError.{WaitError}
 use Rattle.uart_call.specs.declared.call.Call.TheVariants as call
 use Rattle.uart_run.proofs.{built.Calls.call_does, built.Words.leaves}
 
@@ -147,9 +150,10 @@ length_same zero x = refl
 length_same (suc n) x = ap suc (length_same n x)
 
 -- a wait in vain is as many misses as the caller was asked after
-vain_times : (Q : Language) (said : List Bool) (s : Settings) (l : List Access) → InVain Q said s l → Times (length said) Q s l
-vain_times Q said s l (inl (kept, all)) = rw (ap length kept ∙ length_keeps s.limit) all
-vain_times Q said s l (inr (n, few, kept, all)) =
+vain_times : (Q : Language) (said : List Bool) (end : WaitEnd) (s : Settings) (l : List Access) → InVain Q said end s l →
+    Times (length said) Q s l
+vain_times Q said SpinLimit s l (kept, all) = rw (ap length kept ∙ length_keeps s.limit) all
+vain_times Q said Patience s l (n, few, kept, all) =
     let long : length said ≡ n + 1 = ap length kept ∙ (length-append (keeps_waiting n) (false ∷ []) ∙ ap (λ k. k + 1) (length_keeps n)) in
     rw long all
 
@@ -164,7 +168,7 @@ map_said : (said : List Bool) → map (λ (answer : Bool). false) said ≡ same_
 map_said [] = refl
 map_said (x ∷ said) = ap (λ xs. false ∷ xs) (map_said said)
 
-looked : (said : List Bool) (result : Result (Unit {0}) StalledError) (s : Settings) (l : List Access) → FlushesWhile said result s l →
+looked : (said : List Bool) (result : Result (Unit {0}) WaitError) (s : Settings) (l : List Access) → FlushesWhile said result s l →
     InOrder ShowsIdle (looks_of result said) s l
 looked said (Ok x) s l (n, kept, (few, t)) =
     let long : length said ≡ n = ap length kept ∙ length_keeps n in
@@ -183,7 +187,8 @@ looked said (Ok x) s l (n, kept, (few, t)) =
 looked said (Err e) s l (none, vain) =
     let X : List Bool → Type 0 = λ xs. InOrder ShowsIdle xs s l in
     subst X (sym (map_said said))
-    (times_in_order ShowsIdle (ShowsEmpty false) false (λ s l h. h) (length said) s l (vain_times (ShowsEmpty false) said s l vain))
+    (times_in_order ShowsIdle (ShowsEmpty false) false (λ s l h. h) (length said) s l
+    (vain_times (ShowsEmpty false) said e.ended_by s l vain))
 
 pub looks_in_turn : LooksInTurn
 looks_in_turn d e said result made =
@@ -273,7 +278,7 @@ receives_in_turn d e n bytes said result made = (
     Tried : Type 0
     Tried = (got : List (Option ℕ)) × InOrder Tries got s made.list × (found_of got ≡ bytes) × (length got ≡ length bytes + length said)
 
-    all : (other : Result (Unit {0}) StalledError) → ReceivesWhile n bytes said other s made.list → Tried
+    all : (other : Result (Unit {0}) WaitError) → ReceivesWhile n bytes said other s made.list → Tried
     all (Ok x) (received, are, long, asked, t) =
         let count = long_for received in
         let said_long : length said ≡ misses_of received = ap length asked ∙ length_keeps (misses_of received) in
@@ -295,7 +300,8 @@ receives_in_turn d e n bytes said result made = (
         let misses = length_same {A = Option ℕ} (length last) None in (
           tries_for received ++ nones (length last),
           rw t.whole (in_order_two Tries (tries_for received) (nones (length last)) s t.front t.back
-              (awaited_tried received s t.front t.first) (misses_tried (length last) s t.back (vain_times Miss last s t.back t.second))),
+              (awaited_tried received s t.front t.first)
+              (misses_tried (length last) s t.back (vain_times Miss last error.ended_by s t.back t.second))),
           found_for received (nones (length last))
               ∙ (ap (λ zs. items_of received ++ zs) nothing ∙ (append-nil (items_of received) ∙ sym are)),
           omega (arith, count, said_long, bytes_long, whole, misses),
@@ -432,12 +438,12 @@ sends_in_turn d e bytes said result made =
     s : Settings
     s = settings_of (fields d)
 
-    Sent : Result (Unit {0}) StalledError → Type 0
+    Sent : Result (Unit {0}) WaitError → Type 0
     Sent other =
         (counts : List ℕ) × SendsOn bytes counts s made.list
         × (sum counts ≡ sent_by other (length bytes)) × (in_vain counts ≡ length said)
 
-    all : (other : Result (Unit {0}) StalledError) → SendsWhile bytes said other s made.list → Sent other
+    all : (other : Result (Unit {0}) WaitError) → SendsWhile bytes said other s made.list → Sent other
     all (Ok x) (rounds, cut, asked, t) =
         let counts = counts_for s bytes rounds in
         let nil = append-nil counts in
@@ -460,7 +466,8 @@ sends_in_turn d e bytes said result made =
         let zero_sum : sum (zeros n) ≡ 0 = ap sum (sym nil) ∙ sum_zeros n [] in
         let plus : n + 0 ≡ n = omega arith in
         let zero_vain : in_vain (zeros n) ≡ n = ap in_vain (sym nil) ∙ (vain_zeros n [] ∙ plus) in
-        let misses = misses_sent n rest [] s t.back [] some (vain_times SendMiss last s t.back t.second) (record { is = refl }) in
+        let missed = vain_times SendMiss last error.ended_by s t.back t.second in
+        let misses = misses_sent n rest [] s t.back [] some missed (record { is = refl }) in
         let S : List ℕ → Type 0 = λ cs. SendsOn rest cs s (t.back ++ []) in
         let T : List Access → Type 0 = λ l. SendsOn rest (zeros n) s l in
         let tail = subst T (append-nil t.back) (subst S nil misses) in

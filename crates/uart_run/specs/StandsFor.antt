@@ -31,6 +31,7 @@ use Rattle.uart_16550.specs.Status.{ShowsGone}
 use Rattle.uart_16550.specs.Transmit.{Sends}
 use Rattle.uart_16550.specs.Tty.{Starts, TerminalMade, inner_of}
 use Rattle.uart_16550.specs.declared.driver.Uart16550.{Uart16550}
+use Rattle.uart_16550.specs.declared.patience.WaitError.{WaitError}
 use Rattle.uart_call.specs.declared.call.Call.{Call}
 use Rattle.uart_call.specs.declared.call.Call.TheVariants as call
 use Rattle.uart_call.specs.declared.call.Answer.{Answer}
@@ -123,7 +124,7 @@ in_vain (zero ∷ counts) = suc (in_vain counts)
 in_vain (suc n ∷ counts) = in_vain counts
 
 -- how many of so many bytes were sent
-abbrev pub sent_by : Result (Unit {0}) StalledError → ℕ → ℕ
+abbrev pub sent_by : Result (Unit {0}) WaitError → ℕ → ℕ
 sent_by (Ok x) count = count
 sent_by (Err e) count = e.done
 
@@ -131,7 +132,7 @@ sent_by (Err e) count = e.done
 -- sent none
 abbrev pub SendsInTurn : Type 0
 SendsInTurn =
-    (d e : Driver) (bytes : List ℕ) (said : List Bool) (result : Result (Unit {0}) StalledError) →
+    (d e : Driver) (bytes : List ℕ) (said : List Bool) (result : Result (Unit {0}) WaitError) →
     Made MachineStep (SendsWhile bytes said result) d e →
     (counts : List ℕ) × StandsForRun d (sends_of bytes counts) (map Count counts) e
     × (sum counts ≡ sent_by result (length bytes)) × (in_vain counts ≡ length said)
@@ -151,21 +152,21 @@ found_of (None ∷ others) = found_of others
 -- none
 abbrev pub ReceivesInTurn : Type 0
 ReceivesInTurn =
-    (d e : Driver) (n : ℕ) (bytes : List ℕ) (said : List Bool) (result : Result (Unit {0}) StalledError) →
+    (d e : Driver) (n : ℕ) (bytes : List ℕ) (said : List Bool) (result : Result (Unit {0}) WaitError) →
     Made MachineStep (ReceivesWhile n bytes said result) d e →
     (tries : List (Option ℕ)) × StandsForRun d (map (λ one. call.TryReceive) tries) (map answer_of tries) e
     × (found_of tries ≡ bytes) × (length tries ≡ length bytes + length said)
 
 -- what each `is_idle` shows: that the transmitter is not empty, before each question, and in the end that it is, unless
 -- the wait was in vain
-abbrev pub looks_of : Result (Unit {0}) StalledError → (said : List Bool) → List Bool
+abbrev pub looks_of : Result (Unit {0}) WaitError → (said : List Bool) → List Bool
 looks_of (Ok x) said = map (λ (answer : Bool). false) said ++ true ∷ []
 looks_of (Err e) said = map (λ (answer : Bool). false) said
 
 -- `flush_while` stands for one `is_idle` after another; and its caller is asked after each that is false
 abbrev pub LooksInTurn : Type 0
 LooksInTurn =
-    (d e : Driver) (said : List Bool) (result : Result (Unit {0}) StalledError) →
+    (d e : Driver) (said : List Bool) (result : Result (Unit {0}) WaitError) →
     Made MachineStep (FlushesWhile said result) d e →
     StandsForRun d (map (λ shown. call.IsIdle) (looks_of result said)) (map Flag (looks_of result said)) e
 

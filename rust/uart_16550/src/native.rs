@@ -19,7 +19,7 @@ pub use uart_driver::{
     BaudRate, ByteReceiveError, ByteSendError, Config, ConfigRegisterDump, DEFAULT_SPIN_LIMIT,
     DriverState, InitError, InvalidAddressError, InvalidDivisorError, LoopbackError,
     NonIntegerBaudRateError, NonIntegerDivisorError, Patience, Received, RemoteReadyToReceiveError,
-    StalledError, Uart16550Tty, Uart16550TtyError, embedded_io,
+    StalledError, Uart16550Tty, Uart16550TtyError, WaitEnd, WaitError, embedded_io,
 };
 pub use uart_spec::{
     AttachError, ConfigurationError, FifoAction, FifoSize, FifoSizeError, FifosOffError, FrameError,

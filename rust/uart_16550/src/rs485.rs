@@ -9,7 +9,7 @@
 //!
 //! ```
 //! use uart_16550::native::backend::Backend;
-//! use uart_16550::native::{Config, Setup, Uart16550};
+//! use uart_16550::native::{Config, Setup, Uart16550, WaitEnd};
 //! use uart_16550::rs485::{Direction, DirectionLine, HalfDuplex};
 //! use uart_16550::spec::registers::MCR;
 //!
@@ -62,10 +62,10 @@
 //! bus.receive_bytes_while(&mut answer, &mut || now() < end)?;
 //! assert_eq!(&answer, b"question");
 //!
-//! // No other comes: the wait ends in time, with how many bytes there were.
+//! // No other comes: the wait ends in time, with how many bytes there were, and says that the clock ended it.
 //! let end = now() + 50_000;
 //! let none = bus.receive_bytes_while(&mut answer, &mut || now() < end).unwrap_err();
-//! assert_eq!(none.done, 0);
+//! assert_eq!((none.done, none.ended_by), (0, WaitEnd::Patience));
 //! # Ok::<(), Box<dyn std::error::Error>>(())
 //! ```
 //!

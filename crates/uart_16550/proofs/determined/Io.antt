@@ -11,13 +11,14 @@ use Rattle.uart_spec.specs.declared.received.Received.{Received}
 use Rattle.uart_16550.specs.Grammar.{Settings, Then, InOrder}
 use Rattle.uart_16550.specs.Receive.{Hit, Miss, Receives, ReceivesSome}
 use Rattle.uart_16550.specs.Patience.{items_of}
+use Rattle.uart_16550.specs.declared.patience.WaitError.{WaitError}
 use Rattle.uart_16550.specs.Io.{Reads, Writes, Flushes, AnswersRead, AnswersWrite}
 use Rattle.uart_16550.proofs.determined.Parting.{SameOrPart, Determined, so, determined_so, determined_sym, determined_front}
 use Rattle.uart_16550.proofs.determined.Parting.{determined_among, determined_either, asks_determined}
 use Rattle.uart_16550.proofs.determined.Repeated.{Misses, waits_end, wait_ends, alike_any, told}
 use Rattle.uart_16550.proofs.determined.Receive.{receives_determined, receives_exact_determined, miss_same, miss_hit, vain_same, stalled}
 use Rattle.uart_16550.proofs.determined.Receive.{ok_same, receives_with_determined, misses, hits_determined}
-use Rattle.uart_16550.proofs.determined.Waiting.{Waits, each_all, each_more, each_short, one_stream}
+use Rattle.uart_16550.proofs.determined.Waiting.{Waits, each_all, each_more, each_short, ended, one_stream}
 use Rattle.uart_16550.proofs.determined.Transmit.{waits_determined, sends_some_determined, hit_same, refusal_same, refusal_hit}
 
 -- slots with the same front, and the rest as it was
@@ -90,18 +91,18 @@ exact_into_determined s old x y = determined_so (λ r i. (r.0 i, r.1 i)) (exact_
 arrivals : (s : Settings) → Waits s Miss Hit (λ x y. Unit {0})
 arrivals s = record { miss = misses s; vain = miss_same s; items = told Hit (hits_determined s) }
 
-while_apart : (s : Settings) (old new new' : List ℕ) (stream : List Bool) (d : StalledError) →
+while_apart : (s : Settings) (old new new' : List ℕ) (stream : List Bool) (d : WaitError) →
     Determined ⊥ (AsAnswered stream (λ said. ReceivesWhileInto {T = Unit {0}} old new said (Err d)) s)
     (AsAnswered stream (λ said. ReceivesWhileInto {T = Unit {0}} old new' said (Ok tt)) s)
 while_apart s old new new' stream d = record {
   at = λ l m p q.
       let a = p.3.2 in
       let b = q.3.2 in
-      (each_more s Miss Hit (arrivals s) a.0 b.0 a.1 p.1 q.1 (alike_any (items_of a.0) (items_of b.0))
+      (each_more s Miss Hit (arrivals s) a.0 b.0 a.1 p.1 q.1 d.ended_by (alike_any (items_of a.0) (items_of b.0))
       (omega (arith, ap length a.2, ap length b.1, a.3, b.2)) (one_stream p.1 q.1 p.2 q.2 a.5 b.3)).at l m a.6 b.4;
 }
 
-while_into : (s : Settings) (old new new' : List ℕ) (stream : List Bool) (a b : Result (Unit {0}) StalledError) →
+while_into : (s : Settings) (old new new' : List ℕ) (stream : List Bool) (a b : Result (Unit {0}) WaitError) →
     Determined ((a ≡ b) × (new ≡ new')) (AsAnswered stream (λ said. ReceivesWhileInto old new said a) s)
     (AsAnswered stream (λ said. ReceivesWhileInto old new' said b) s)
 while_into s old new new' stream (Ok x) (Ok y) = record {
@@ -120,14 +121,14 @@ while_into s old new new' stream (Err d) (Err f) = record {
       let b = q.3.2 in
       so
       (λ r.
-      let bytes : take d.done new ≡ take f.done new' = a.2 ∙ r ∙ sym b.2 in
+      let bytes : take d.done new ≡ take f.done new' = a.2 ∙ r.0 ∙ sym b.2 in
       let count : d.done ≡ f.done = a.4 ∙ ap length bytes ∙ sym b.4 in
-      (stalled d f count, slots_same d.done f.done new new' old count bytes p.3.1 q.3.1))
-      ((each_short s Miss Hit (arrivals s) a.0 b.0 a.1 b.1 p.1 q.1 (alike_any (items_of a.0) (items_of b.0))
+      (ended d f count r.1, slots_same d.done f.done new new' old count bytes p.3.1 q.3.1))
+      ((each_short s Miss Hit (arrivals s) a.0 b.0 a.1 b.1 p.1 q.1 d.ended_by f.ended_by (alike_any (items_of a.0) (items_of b.0))
       (one_stream p.1 q.1 p.2 q.2 a.5 b.5)).at l m a.6 b.6);
 }
 
-pub receives_while_determined : (s : Settings) (old : List ℕ) (stream : List Bool) (x y : Result (Unit {0}) StalledError × List ℕ) →
+pub receives_while_determined : (s : Settings) (old : List ℕ) (stream : List Bool) (x y : Result (Unit {0}) WaitError × List ℕ) →
     Determined (x ≡ y) (AsAnswered stream (λ said. ReceivesWhileInto old x.1 said x.0) s)
     (AsAnswered stream (λ said. ReceivesWhileInto old y.1 said y.0) s)
 receives_while_determined s old stream x y = determined_so (λ r i. (r.0 i, r.1 i)) (while_into s old x.1 y.1 stream x.0 y.0)

@@ -1,30 +1,28 @@
 //! Sending and receiving with waits that end when their caller says so.
 ghost use Rattle.std.specs.Prelude.{◌≡◌, ◌<◌, length, drop, IfErr};
 ghost use Rattle.uart_16550.specs.Patience.{MadeWhile, SendsWhile, WaitsWhile};
-ghost use Rattle.uart_16550.specs.Patience.{AwaitsWhile, ReceivesWhile};
-ghost use Rattle.uart_16550.specs.Receive.{filled};
+ghost use Rattle.uart_16550.specs.Patience.{AwaitsWhile, ReceivesWhile, filled_while};
 
 use super::Uart16550;
 use crate::backend::Backend;
-use crate::patience::Patience;
-use uart_spec::StalledError;
+use crate::patience::{Patience, WaitEnd, WaitError};
 
 impl<B: Backend> Uart16550<B> {
     // Waits until bytes may be written, and asks after each check that fails whether to go on.
-    fn wait_to_send_while<P: Patience>(&mut self, patience: &mut P) -> bool
+    fn wait_to_send_while<P: Patience>(&mut self, patience: &mut P) -> Result<(), WaitEnd>
         ensures { MadeWhile P.answers B.step (λ said. WaitsWhile said result)
             patience.old patience.new self.old self.new }
     {
         // The limit bounds the wait even if the caller never has enough.
         for _turn in 0..self.spin_limit.get() {
             if let Ok(()) = self.ready_to_send() {
-                return true;
+                return Ok(());
             }
             if !patience.keep_waiting() {
-                return false;
+                return Err(WaitEnd::Patience);
             }
         }
-        false
+        Err(WaitEnd::SpinLimit)
     }
 
     /// Sends all of the bytes as `send_bytes_exact` does, and waits no longer than the caller
@@ -36,9 +34,9 @@ impl<B: Backend> Uart16550<B> {
     ///
     /// # Errors
     ///
-    /// `StalledError` if `patience` answered to wait no longer, or after `spin_limit` unsuccessful
-    /// checks in a row. The first `done` bytes were written to the chip, and the others were not:
-    /// a further call sends them.
+    /// `WaitError` if `patience` answered to wait no longer, or after `spin_limit` unsuccessful
+    /// checks in a row: `ended_by` tells which. The first `done` bytes were written to the chip,
+    /// and the others were not: a further call sends them.
     ///
     /// # Examples
     ///
@@ -50,26 +48,28 @@ impl<B: Backend> Uart16550<B> {
         &mut self,
         bytes: &[u8],
         patience: &mut P,
-    ) -> Result<(), StalledError>
+    ) -> Result<(), WaitError>
         // promise: a wait ends when its caller says so, who is asked once after each unsuccessful
-        //   poll, and no poll follows; it does as `send_bytes_exact` if the caller always keeps
-        //   waiting
+        //   poll, and no poll follows; the error tells whether the caller or the limit ended it; it
+        //   does as `send_bytes_exact` if the caller always keeps waiting
         // with: send_bytes_while.made, endless_patience_is_exact.sends
         // shown by: a_caller_is_asked_after_each_check_that_fails,
         //   no_check_follows_the_answer_to_wait_no_longer, the_spin_limit_ends_a_wait_too,
         //   waits_in_time
         // refused: send_bytes_while_checks_after_the_end, send_bytes_while_never_asks_at_first,
-        //   send_bytes_while_asks_twice
+        //   send_bytes_while_asks_twice, send_bytes_while_takes_the_answer_for_the_limit,
+        //   send_bytes_while_takes_the_limit_for_an_answer
         // a wait for room ends too when the caller says so, who is asked once after each failed
-        // check; no check follows the answer to wait no longer
+        // check; no check follows the answer to wait no longer, and the error tells whether that
+        // answer or the limit ended the wait
         ensures made { MadeWhile P.answers B.step (λ said. SendsWhile bytes.now said result)
             patience.old patience.new self.old self.new }
         ensures done { IfErr result (λ e. e.done < length bytes.now) }
     {
         let mut done = 0;
         while done < bytes.len() {
-            if !self.wait_to_send_while(patience) {
-                return Err(StalledError { done });
+            if let Err(ended_by) = self.wait_to_send_while(patience) {
+                return Err(WaitError { done, ended_by });
             }
             done += self.write_burst(&bytes[done..]);
         }
@@ -77,20 +77,20 @@ impl<B: Backend> Uart16550<B> {
     }
 
     // Waits for one byte, and asks after each poll that fails whether to go on.
-    fn receive_one_while<P: Patience>(&mut self, caller: &mut P) -> Option<u8>
+    fn receive_one_while<P: Patience>(&mut self, caller: &mut P) -> Result<u8, WaitEnd>
         ensures { MadeWhile P.answers B.step (λ said. AwaitsWhile said result)
             caller.old caller.new self.old self.new }
     {
         // The limit bounds the wait even if the caller never has enough.
         for _poll in 0..self.spin_limit.get() {
             if let Ok(byte) = self.try_receive_byte() {
-                return Some(byte);
+                return Ok(byte);
             }
             if !caller.keep_waiting() {
-                return None;
+                return Err(WaitEnd::Patience);
             }
         }
-        None
+        Err(WaitEnd::SpinLimit)
     }
 
     /// Receives a byte into each slot as `receive_bytes_exact` does, and waits no longer than the
@@ -105,9 +105,9 @@ impl<B: Backend> Uart16550<B> {
     ///
     /// # Errors
     ///
-    /// `StalledError` if `patience` answered to wait no longer, or after `spin_limit` unsuccessful
-    /// polls in a row. The first `done` slots have the bytes that were received, and the other
-    /// slots are unchanged: a further call fills them.
+    /// `WaitError` if `patience` answered to wait no longer, or after `spin_limit` unsuccessful
+    /// polls in a row: `ended_by` tells which. The first `done` slots have the bytes that were
+    /// received, and the other slots are unchanged: a further call fills them.
     ///
     /// # Examples
     ///
@@ -119,7 +119,7 @@ impl<B: Backend> Uart16550<B> {
         &mut self,
         buffer: &mut [u8],
         patience: &mut P,
-    ) -> Result<(), StalledError>
+    ) -> Result<(), WaitError>
         // promise: a wait for bytes ends when its caller says so, too: slots behind those that came
         //   stay, and what the polls clear is saved
         // with: receive_bytes_while.made, receive_bytes_while.rest,
@@ -128,16 +128,19 @@ impl<B: Backend> Uart16550<B> {
         //   no_poll_follows_the_answer_to_wait_no_longer, errors_that_the_polls_clear_are_saved,
         //   waits_in_time_for_bytes
         // refused: receive_bytes_while_polls_after_the_end,
-        //   receive_bytes_while_never_asks_at_first, receive_bytes_while_takes_what_came_for_all
-        // so does a wait for a byte, and no poll follows
+        //   receive_bytes_while_never_asks_at_first, receive_bytes_while_takes_what_came_for_all,
+        //   receive_bytes_while_takes_the_answer_for_the_limit,
+        //   receive_bytes_while_takes_the_limit_for_an_answer
+        // so does a wait for a byte, and no poll follows; the error tells which ended it
         ensures made { MadeWhile P.answers B.step (λ said. ReceivesWhile (length buffer.old)
-            (filled result buffer.new) said result) patience.old patience.new self.old self.new }
+            (filled_while result buffer.new) said result)
+            patience.old patience.new self.old self.new }
         ensures rest { IfErr result (λ e. drop e.done buffer.new ≡ drop e.done buffer.old) }
     {
         for (done, slot) in buffer.iter_mut().enumerate() {
             match self.receive_one_while(patience) {
-                Some(byte) => *slot = byte,
-                None => return Err(StalledError { done }),
+                Ok(byte) => *slot = byte,
+                Err(ended_by) => return Err(WaitError { done, ended_by }),
             }
         }
         Ok(())

@@ -12,7 +12,7 @@ ghost use Rattle.uart_spec.specs.declared.registers.offsets.TheConstants as offs
 
 use super::Uart16550;
 use crate::backend::Backend;
-use crate::patience::Patience;
+use crate::patience::{Patience, WaitEnd, WaitError};
 use bitflags::Flags;
 use uart_spec::registers::{LSR, MCR, MSR, offsets};
 use uart_spec::{ByteSendError, FIFO_SIZE, FifoSize, StalledError};
@@ -299,8 +299,9 @@ impl<B: Backend> Uart16550<B> {
     ///
     /// # Errors
     ///
-    /// `StalledError`, with `done` 0, if `patience` answered to wait no longer, or after
-    /// `spin_limit` unsuccessful polls in a row. What was sent goes on to leave the chip.
+    /// `WaitError`, with `done` 0, if `patience` answered to wait no longer, or after `spin_limit`
+    /// unsuccessful polls in a row: `ended_by` tells which. What was sent goes on to leave the
+    /// chip.
     ///
     /// # Examples
     ///
@@ -308,14 +309,15 @@ impl<B: Backend> Uart16550<B> {
     /// uart.send_bytes_while(b"hello", &mut deadline)?;
     /// uart.flush_while(&mut deadline)?;
     /// ```
-    pub fn flush_while<P: Patience>(&mut self, patience: &mut P) -> Result<(), StalledError>
+    pub fn flush_while<P: Patience>(&mut self, patience: &mut P) -> Result<(), WaitError>
         // promise: a wait for an empty transmitter ends when its caller says so, too
         // with: flush_while, endless_patience_is_exact.flushes
         // shown by: who_flushes_is_asked_after_each_poll_that_fails,
         //   errors_that_a_flush_clears_are_saved, waits_in_time_for_an_empty_transmitter
         // refused: flush_while_waits_for_the_holding_register, flush_while_polls_after_the_end,
-        //   flush_while_never_asks_at_first
-        // so does a wait for an empty transmitter
+        //   flush_while_never_asks_at_first, flush_while_takes_the_answer_for_the_limit,
+        //   flush_while_takes_the_limit_for_an_answer
+        // so does a wait for an empty transmitter; the error tells which ended it
         ensures { MadeWhile P.answers B.step (λ said. FlushesWhile said result)
             patience.old patience.new self.old self.new }
     {
@@ -324,9 +326,15 @@ impl<B: Backend> Uart16550<B> {
                 return Ok(());
             }
             if !patience.keep_waiting() {
-                return Err(StalledError { done: 0 });
+                return Err(WaitError {
+                    done: 0,
+                    ended_by: WaitEnd::Patience,
+                });
             }
         }
-        Err(StalledError { done: 0 })
+        Err(WaitError {
+            done: 0,
+            ended_by: WaitEnd::SpinLimit,
+        })
     }
 }

@@ -223,10 +223,10 @@ pub mod bursts {}
 ///
 /// # `SendsWhile`
 ///
-/// `send_bytes_while`, with the answers of the caller: all bytes, burst by burst, each burst after its own wait; or those before the burst whose wait ended in vain, as many as the error reports.
+/// `send_bytes_while`, with the answers of the caller: all bytes, burst by burst, each burst after its own wait; or those before the burst whose wait ended in vain, as many as the error reports, which tells what ended that wait.
 ///
 /// ```text
-/// abbrev pub SendsWhile : {T : Type 0} → List ℕ → List Bool → Result T StalledError → Language
+/// abbrev pub SendsWhile : {T : Type 0} → List ℕ → List Bool → Result T WaitError → Language
 /// SendsWhile bytes said (Ok x) s l =
 ///     (rounds : List (Awaited (List ℕ))) × IsCut s bytes (items_of rounds) [] × (said ≡ keeps_waiting (misses_of rounds))
 ///     × InOrder RoundAfter rounds s l
@@ -234,26 +234,38 @@ pub mod bursts {}
 ///     (rounds : List (Awaited (List ℕ))) × (last : List Bool) × (rest : List ℕ) × IsCut s bytes (items_of rounds) rest
 ///     × (0 < length rest) × (e.done + length rest ≡ length bytes)
 ///     × (said ≡ keeps_waiting (misses_of rounds) ++ last)
-///     × Then (InOrder RoundAfter rounds) (InVain SendMiss last) s l
+///     × Then (InOrder RoundAfter rounds) (InVain SendMiss last e.ended_by) s l
 /// ```
 ///
 /// It uses `Language`, `InOrder`, `Then` of `crates/uart_16550/specs/Grammar.antt`; `Awaited`, `items_of`, `keeps_waiting`, `misses_of`, `RoundAfter`, `InVain` of this file; `IsCut`, `SendMiss` of `crates/uart_16550/specs/Transmit.antt`.
+///
+/// <span id="filled_while"></span>
+///
+/// # `filled_while`
+///
+/// The slots that `receive_bytes_while` filled.
+///
+/// ```text
+/// abbrev pub filled_while : {T : Type 0} → Result T WaitError → List ℕ → List ℕ
+/// filled_while (Ok x) slots = slots
+/// filled_while (Err e) slots = take e.done slots
+/// ```
 ///
 /// <span id="ReceivesWhile"></span>
 ///
 /// # `ReceivesWhile`
 ///
-/// `receive_bytes_while`, with the answers of the caller: the slots are filled, each byte after its own wait; or those before the one whose wait ended in vain, as many as the error reports.
+/// `receive_bytes_while`, with the answers of the caller: the slots are filled, each byte after its own wait; or those before the one whose wait ended in vain, as many as the error reports, which tells what ended that wait.
 ///
 /// ```text
-/// abbrev pub ReceivesWhile : {T : Type 0} → ℕ → List ℕ → List Bool → Result T StalledError → Language
+/// abbrev pub ReceivesWhile : {T : Type 0} → ℕ → List ℕ → List Bool → Result T WaitError → Language
 /// ReceivesWhile n bytes said (Ok x) s l =
 ///     (received : List (Awaited ℕ)) × (bytes ≡ items_of received) × (length bytes ≡ n)
 ///     × (said ≡ keeps_waiting (misses_of received)) × InOrder ByteAfter received s l
 /// ReceivesWhile n bytes said (Err e) s l =
 ///     (received : List (Awaited ℕ)) × (last : List Bool) × (bytes ≡ items_of received) × (length bytes < n)
 ///     × (e.done ≡ length bytes) × (said ≡ keeps_waiting (misses_of received) ++ last)
-///     × Then (InOrder ByteAfter received) (InVain Miss last) s l
+///     × Then (InOrder ByteAfter received) (InVain Miss last e.ended_by) s l
 /// ```
 ///
 /// It uses `Language`, `InOrder`, `Then` of `crates/uart_16550/specs/Grammar.antt`; `Awaited`, `items_of`, `keeps_waiting`, `misses_of`, `ByteAfter`, `InVain` of this file; `Miss` of `crates/uart_16550/specs/Receive.antt`.
@@ -262,12 +274,12 @@ pub mod bursts {}
 ///
 /// # `FlushesWhile`
 ///
-/// `flush_while`, with the answers of the caller: the transmitter was empty after fewer misses in a row than the limit; or the wait was in vain.
+/// `flush_while`, with the answers of the caller: the transmitter was empty after fewer misses in a row than the limit; or the wait was in vain, and the error tells what ended it.
 ///
 /// ```text
-/// abbrev pub FlushesWhile : {T : Type 0} → List Bool → Result T StalledError → Language
+/// abbrev pub FlushesWhile : {T : Type 0} → List Bool → Result T WaitError → Language
 /// FlushesWhile said (Ok x) s l = (n : ℕ) × (said ≡ keeps_waiting n) × After n (ShowsEmpty false) (ShowsEmpty true) s l
-/// FlushesWhile said (Err e) s l = (e.done ≡ 0) × InVain (ShowsEmpty false) said s l
+/// FlushesWhile said (Err e) s l = (e.done ≡ 0) × InVain (ShowsEmpty false) said e.ended_by s l
 /// ```
 ///
 /// It uses `Language` of `crates/uart_16550/specs/Grammar.antt`; `keeps_waiting`, `After`, `ShowsEmpty`, `InVain` of this file.
@@ -287,7 +299,7 @@ pub mod bursts {}
 /// ```
 ///
 /// It uses [`Made`](crate::proved::driver#Made); `Language` of `crates/uart_16550/specs/Grammar.antt`.
-#[doc(alias("SendsWhile", "ReceivesWhile", "FlushesWhile", "MadeWhile"))]
+#[doc(alias("SendsWhile", "filled_while", "ReceivesWhile", "FlushesWhile", "MadeWhile"))]
 pub mod patience {}
 
 /// The driver's fields, and what a call does to them and to the backend.

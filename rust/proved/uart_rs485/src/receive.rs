@@ -2,8 +2,8 @@
 
 use crate::bus::HalfDuplex;
 use crate::errors::EchoError;
-use uart_16550::Patience;
 use uart_16550::backend::Backend;
+use uart_16550::{Patience, WaitError};
 use uart_spec::{ByteReceiveError, Received, StalledError};
 
 impl<B: Backend> HalfDuplex<B> {
@@ -319,9 +319,9 @@ impl<B: Backend> HalfDuplex<B> {
     ///
     /// # Errors
     ///
-    /// `StalledError` if `patience` answered to wait no longer, or after `spin_limit` unsuccessful
-    /// polls in a row. The first `done` slots have the bytes that were received, and the other
-    /// slots are unchanged: a further call fills them.
+    /// `WaitError` if `patience` answered to wait no longer, or after `spin_limit` unsuccessful
+    /// polls in a row: `ended_by` tells which. The first `done` slots have the bytes that were
+    /// received, and the other slots are unchanged: a further call fills them.
     ///
     /// # Examples
     ///
@@ -340,8 +340,8 @@ impl<B: Backend> HalfDuplex<B> {
     /// - *made*: [`BusDidWhile`](crate::proved::bus#BusDidWhile): the caller was asked and gave some answers, from the first of its states to the second, and the call did what goes with them, as `BusDid` says.
     ///   - [`OnDriver`](crate::proved::bus#OnDriver): the driver does this, and of the other fields only this changes.
     ///   - [`Saving`](uart_16550::proved::driver#Saving): a list of the language whose reads are saved.
-    ///   - [`ReceivesWhile`](uart_16550::proved::patience#ReceivesWhile): `receive_bytes_while`, with the answers of the caller: the slots are filled, each byte after its own wait; or those before the one whose wait ended in vain, as many as the error reports.
-    ///   - [`filled`](uart_16550::proved::receive#filled): the bytes that an exact call put into its slots: all of them, or as many as the stall reports.
+    ///   - [`ReceivesWhile`](uart_16550::proved::patience#ReceivesWhile): `receive_bytes_while`, with the answers of the caller: the slots are filled, each byte after its own wait; or those before the one whose wait ended in vain, as many as the error reports, which tells what ended that wait.
+    ///   - [`filled_while`](uart_16550::proved::patience#filled_while): the slots that `receive_bytes_while` filled.
     ///   - [`unchanged`](crate::proved::bus#unchanged): the fields as they are; with another driver; with this direction.
     /// - *rest*: if it returns `Err e`: `drop e.done buffer.new ≡ drop e.done buffer.old`.
     ///
@@ -350,7 +350,7 @@ impl<B: Backend> HalfDuplex<B> {
     /// [How to read them](uart_spec::proved):
     ///
     /// ```text
-    /// ensures made { BusDidWhile P.answers B.step (λ said. OnDriver (Saving (ReceivesWhile (length buffer.old) (filled result buffer.new) said result)) unchanged) patience.old patience.new self.old self.new }
+    /// ensures made { BusDidWhile P.answers B.step (λ said. OnDriver (Saving (ReceivesWhile (length buffer.old) (filled_while result buffer.new) said result)) unchanged) patience.old patience.new self.old self.new }
     /// ensures rest { IfErr result (λ e. drop e.done buffer.new ≡ drop e.done buffer.old) }
     /// ```
     ///
@@ -359,7 +359,7 @@ impl<B: Backend> HalfDuplex<B> {
         &mut self,
         buffer: &mut [u8],
         patience: &mut P,
-    ) -> Result<(), StalledError> {
+    ) -> Result<(), WaitError> {
         self.uart.receive_bytes_while(buffer, patience)
     }
 }

@@ -4,7 +4,7 @@ use proved_uart_rs485::{
     BusyError, Direction, DirectionLine, EchoError, HalfDuplex, NotSendingError, SendError,
 };
 use std::num::NonZeroU64;
-use uart_16550::Uart16550;
+use uart_16550::{Uart16550, WaitEnd, WaitError};
 use uart_calls::replay::Replay;
 use uart_ring::Refused;
 use uart_spec::access::Access::{self, Read, Write};
@@ -232,7 +232,7 @@ fn an_answer_is_waited_for() {
             asked += 1;
             asked < 3
         });
-        assert_eq!(answer, Err(StalledError { done: 1 }));
+        assert_eq!(answer, Err(WaitError { done: 1, ended_by: WaitEnd::Patience }));
         assert_eq!(slots, [b'!', 0xee, 0xee]);
         assert_eq!(asked, 3);
         assert!(!bus.is_sending());

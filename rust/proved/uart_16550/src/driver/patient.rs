@@ -2,22 +2,21 @@
 
 use super::Uart16550;
 use crate::backend::Backend;
-use crate::patience::Patience;
-use uart_spec::StalledError;
+use crate::patience::{Patience, WaitEnd, WaitError};
 
 impl<B: Backend> Uart16550<B> {
     // Waits until bytes may be written, and asks after each check that fails whether to go on.
-    fn wait_to_send_while<P: Patience>(&mut self, patience: &mut P) -> bool {
+    fn wait_to_send_while<P: Patience>(&mut self, patience: &mut P) -> Result<(), WaitEnd> {
         // The limit bounds the wait even if the caller never has enough.
         for _turn in 0..self.spin_limit.get() {
             if let Ok(()) = self.ready_to_send() {
-                return true;
+                return Ok(());
             }
             if !patience.keep_waiting() {
-                return false;
+                return Err(WaitEnd::Patience);
             }
         }
-        false
+        Err(WaitEnd::SpinLimit)
     }
 
     /// Sends all of the bytes as `send_bytes_exact` does, and waits no longer than the caller
@@ -29,9 +28,9 @@ impl<B: Backend> Uart16550<B> {
     ///
     /// # Errors
     ///
-    /// `StalledError` if `patience` answered to wait no longer, or after `spin_limit` unsuccessful
-    /// checks in a row. The first `done` bytes were written to the chip, and the others were not:
-    /// a further call sends them.
+    /// `WaitError` if `patience` answered to wait no longer, or after `spin_limit` unsuccessful
+    /// checks in a row: `ended_by` tells which. The first `done` bytes were written to the chip,
+    /// and the others were not: a further call sends them.
     ///
     /// # Examples
     ///
@@ -47,7 +46,7 @@ impl<B: Backend> Uart16550<B> {
     /// # Proved
     ///
     /// - *made*: [`MadeWhile`](crate::proved::patience#MadeWhile): the caller was asked and gave some answers, from the first of its states to the second, and the call made a list of the language that goes with them, as `Made` says.
-    ///   - [`SendsWhile`](crate::proved::patience#SendsWhile): `send_bytes_while`, with the answers of the caller: all bytes, burst by burst, each burst after its own wait; or those before the burst whose wait ended in vain, as many as the error reports.
+    ///   - [`SendsWhile`](crate::proved::patience#SendsWhile): `send_bytes_while`, with the answers of the caller: all bytes, burst by burst, each burst after its own wait; or those before the burst whose wait ended in vain, as many as the error reports, which tells what ended that wait.
     /// - *done*: if it returns `Err e`: `e.done < length bytes.now`.
     ///
     /// <details><summary>The clauses</summary>
@@ -64,11 +63,11 @@ impl<B: Backend> Uart16550<B> {
         &mut self,
         bytes: &[u8],
         patience: &mut P,
-    ) -> Result<(), StalledError> {
+    ) -> Result<(), WaitError> {
         let mut done = 0;
         while done < bytes.len() {
-            if !self.wait_to_send_while(patience) {
-                return Err(StalledError { done });
+            if let Err(ended_by) = self.wait_to_send_while(patience) {
+                return Err(WaitError { done, ended_by });
             }
             done += self.write_burst(&bytes[done..]);
         }
@@ -76,17 +75,17 @@ impl<B: Backend> Uart16550<B> {
     }
 
     // Waits for one byte, and asks after each poll that fails whether to go on.
-    fn receive_one_while<P: Patience>(&mut self, caller: &mut P) -> Option<u8> {
+    fn receive_one_while<P: Patience>(&mut self, caller: &mut P) -> Result<u8, WaitEnd> {
         // The limit bounds the wait even if the caller never has enough.
         for _poll in 0..self.spin_limit.get() {
             if let Ok(byte) = self.try_receive_byte() {
-                return Some(byte);
+                return Ok(byte);
             }
             if !caller.keep_waiting() {
-                return None;
+                return Err(WaitEnd::Patience);
             }
         }
-        None
+        Err(WaitEnd::SpinLimit)
     }
 
     /// Receives a byte into each slot as `receive_bytes_exact` does, and waits no longer than the
@@ -101,9 +100,9 @@ impl<B: Backend> Uart16550<B> {
     ///
     /// # Errors
     ///
-    /// `StalledError` if `patience` answered to wait no longer, or after `spin_limit` unsuccessful
-    /// polls in a row. The first `done` slots have the bytes that were received, and the other
-    /// slots are unchanged: a further call fills them.
+    /// `WaitError` if `patience` answered to wait no longer, or after `spin_limit` unsuccessful
+    /// polls in a row: `ended_by` tells which. The first `done` slots have the bytes that were
+    /// received, and the other slots are unchanged: a further call fills them.
     ///
     /// # Examples
     ///
@@ -119,8 +118,8 @@ impl<B: Backend> Uart16550<B> {
     /// # Proved
     ///
     /// - *made*: [`MadeWhile`](crate::proved::patience#MadeWhile): the caller was asked and gave some answers, from the first of its states to the second, and the call made a list of the language that goes with them, as `Made` says.
-    ///   - [`ReceivesWhile`](crate::proved::patience#ReceivesWhile): `receive_bytes_while`, with the answers of the caller: the slots are filled, each byte after its own wait; or those before the one whose wait ended in vain, as many as the error reports.
-    ///   - [`filled`](crate::proved::receive#filled): the bytes that an exact call put into its slots: all of them, or as many as the stall reports.
+    ///   - [`ReceivesWhile`](crate::proved::patience#ReceivesWhile): `receive_bytes_while`, with the answers of the caller: the slots are filled, each byte after its own wait; or those before the one whose wait ended in vain, as many as the error reports, which tells what ended that wait.
+    ///   - [`filled_while`](crate::proved::patience#filled_while): the slots that `receive_bytes_while` filled.
     /// - *rest*: if it returns `Err e`: `drop e.done buffer.new ≡ drop e.done buffer.old`.
     ///
     /// <details><summary>The clauses</summary>
@@ -128,7 +127,7 @@ impl<B: Backend> Uart16550<B> {
     /// [How to read them](uart_spec::proved):
     ///
     /// ```text
-    /// ensures made { MadeWhile P.answers B.step (λ said. ReceivesWhile (length buffer.old) (filled result buffer.new) said result) patience.old patience.new self.old self.new }
+    /// ensures made { MadeWhile P.answers B.step (λ said. ReceivesWhile (length buffer.old) (filled_while result buffer.new) said result) patience.old patience.new self.old self.new }
     /// ensures rest { IfErr result (λ e. drop e.done buffer.new ≡ drop e.done buffer.old) }
     /// ```
     ///
@@ -137,11 +136,11 @@ impl<B: Backend> Uart16550<B> {
         &mut self,
         buffer: &mut [u8],
         patience: &mut P,
-    ) -> Result<(), StalledError> {
+    ) -> Result<(), WaitError> {
         for (done, slot) in buffer.iter_mut().enumerate() {
             match self.receive_one_while(patience) {
-                Some(byte) => *slot = byte,
-                None => return Err(StalledError { done }),
+                Ok(byte) => *slot = byte,
+                Err(ended_by) => return Err(WaitError { done, ended_by }),
             }
         }
         Ok(())

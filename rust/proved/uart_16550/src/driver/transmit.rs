@@ -2,7 +2,7 @@
 
 use super::Uart16550;
 use crate::backend::Backend;
-use crate::patience::Patience;
+use crate::patience::{Patience, WaitEnd, WaitError};
 use bitflags::Flags;
 use uart_spec::registers::{LSR, MCR, MSR, offsets};
 use uart_spec::{ByteSendError, FIFO_SIZE, FifoSize, StalledError};
@@ -303,8 +303,9 @@ impl<B: Backend> Uart16550<B> {
     ///
     /// # Errors
     ///
-    /// `StalledError`, with `done` 0, if `patience` answered to wait no longer, or after
-    /// `spin_limit` unsuccessful polls in a row. What was sent goes on to leave the chip.
+    /// `WaitError`, with `done` 0, if `patience` answered to wait no longer, or after `spin_limit`
+    /// unsuccessful polls in a row: `ended_by` tells which. What was sent goes on to leave the
+    /// chip.
     ///
     /// # Examples
     ///
@@ -320,7 +321,7 @@ impl<B: Backend> Uart16550<B> {
     /// # Proved
     ///
     /// - [`MadeWhile`](crate::proved::patience#MadeWhile): the caller was asked and gave some answers, from the first of its states to the second, and the call made a list of the language that goes with them, as `Made` says.
-    ///   - [`FlushesWhile`](crate::proved::patience#FlushesWhile): `flush_while`, with the answers of the caller: the transmitter was empty after fewer misses in a row than the limit; or the wait was in vain.
+    ///   - [`FlushesWhile`](crate::proved::patience#FlushesWhile): `flush_while`, with the answers of the caller: the transmitter was empty after fewer misses in a row than the limit; or the wait was in vain, and the error tells what ended it.
     ///
     /// <details><summary>The clauses</summary>
     ///
@@ -331,15 +332,21 @@ impl<B: Backend> Uart16550<B> {
     /// ```
     ///
     /// </details>
-    pub fn flush_while<P: Patience>(&mut self, patience: &mut P) -> Result<(), StalledError> {
+    pub fn flush_while<P: Patience>(&mut self, patience: &mut P) -> Result<(), WaitError> {
         for _poll in 0..self.spin_limit.get() {
             if self.read_lsr().contains(LSR::TRANSMITTER_EMPTY) {
                 return Ok(());
             }
             if !patience.keep_waiting() {
-                return Err(StalledError { done: 0 });
+                return Err(WaitError {
+                    done: 0,
+                    ended_by: WaitEnd::Patience,
+                });
             }
         }
-        Err(StalledError { done: 0 })
+        Err(WaitError {
+            done: 0,
+            ended_by: WaitEnd::SpinLimit,
+        })
     }
 }

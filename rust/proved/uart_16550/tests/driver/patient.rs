@@ -3,9 +3,14 @@
 
 use crate::devices::{Listed, RegisterFile, driver, impatient};
 use crate::lists::{Accesses, list};
-use proved_uart_16550::Patience;
+use proved_uart_16550::{Patience, WaitEnd, WaitError};
+use uart_spec::Config;
 use uart_spec::registers::LSR;
-use uart_spec::{Config, StalledError};
+
+/// The two ends of a wait in vain.
+const PATIENCE: WaitEnd = WaitEnd::Patience;
+
+const SPIN_LIMIT: WaitEnd = WaitEnd::SpinLimit;
 
 /// More than one burst of 16 bytes: that, and the rest.
 const LONG: &[u8] = b"hello, world! 123";
@@ -29,19 +34,24 @@ impl Patience for Times {
     }
 }
 
+/// Returns the error of a wait that this ended after so many bytes.
+fn wait_error((done, ended_by): (usize, WaitEnd)) -> WaitError {
+    WaitError { done, ended_by }
+}
+
 /// Makes a row: a new driver, with FIFOs that are taken to be on and a spin limit of 3, sends the bytes to a device whose reads return
 /// these answers. Its caller keeps waiting so many times. Returns how often it was asked.
 fn asked(
     answers: &'static [u8],
     bytes: &[u8],
     left: usize,
-    done: Result<(), usize>,
+    done: Result<(), (usize, WaitEnd)>,
     accesses: &Accesses,
 ) -> usize {
     let mut uart = impatient(Listed(answers));
     let mut caller = Times { left, asked: 0 };
     let sent = uart.send_bytes_while(bytes, &mut caller);
-    assert_eq!(sent, done.map_err(|done| StalledError { done }));
+    assert_eq!(sent, done.map_err(wait_error));
     assert_eq!(uart.backend().log.entries(), accesses.entries());
     caller.asked
 }
@@ -52,14 +62,14 @@ fn asked_for(
     answers: &'static [u8],
     came: &[u8],
     left: usize,
-    done: Result<(), usize>,
+    done: Result<(), (usize, WaitEnd)>,
     accesses: &Accesses,
 ) -> usize {
     let mut uart = impatient(Listed(answers));
     let mut caller = Times { left, asked: 0 };
     let mut slots = vec![0xee; came.len()];
     let received = uart.receive_bytes_while(&mut slots, &mut caller);
-    assert_eq!(received, done.map_err(|done| StalledError { done }));
+    assert_eq!(received, done.map_err(wait_error));
     assert_eq!(slots, came);
     assert_eq!(uart.backend().log.entries(), accesses.entries());
     caller.asked
@@ -77,19 +87,23 @@ fn a_caller_is_asked_after_each_check_that_fails() {
 
 #[test]
 fn no_check_follows_the_answer_to_wait_no_longer() {
-    assert_eq!(asked(&[], LONG, 0, Err(0), &list().look(0x00)), 1);
-    assert_eq!(asked(&[], LONG, 1, Err(0), &list().looks(2, 0x00)), 2);
+    let at_first = Err((0, PATIENCE));
+    assert_eq!(asked(&[], LONG, 0, at_first, &list().look(0x00)), 1);
+    assert_eq!(asked(&[], LONG, 1, at_first, &list().looks(2, 0x00)), 2);
     // The answers count over all of the waits: here the second wait ends at its first check.
     let second = list().look(0x00).burst(FIRST).look(0x00);
     let answers = &[0x00, 0x20, 0x00, 0x20];
-    assert_eq!(asked(answers, LONG, 1, Err(16), &second), 2);
+    assert_eq!(asked(answers, LONG, 1, Err((16, PATIENCE)), &second), 2);
 }
 
 #[test]
 fn the_spin_limit_ends_a_wait_too() {
     let limit = list().looks(3, 0x00);
-    assert_eq!(asked(&[], LONG, usize::MAX, Err(0), &limit), 3);
-    assert_eq!(asked(&[], LONG, 2, Err(0), &limit), 3);
+    let stalled = Err((0, SPIN_LIMIT));
+    assert_eq!(asked(&[], LONG, usize::MAX, stalled, &limit), 3);
+    assert_eq!(asked(&[], LONG, 3, stalled, &limit), 3);
+    // At the check that reaches the limit the caller is asked too, and its answer decides.
+    assert_eq!(asked(&[], LONG, 2, Err((0, PATIENCE)), &limit), 3);
 }
 
 #[test]
@@ -138,14 +152,16 @@ fn who_receives_is_asked_after_each_poll_that_fails() {
 #[test]
 fn no_poll_follows_the_answer_to_wait_no_longer() {
     let one = list().look(0x00);
-    assert_eq!(asked_for(&[0, 1, 0x41], &[0xee; 2], 0, Err(0), &one), 1);
+    let at_first = Err((0, PATIENCE));
+    assert_eq!(asked_for(&[0, 1, 0x41], &[0xee; 2], 0, at_first, &one), 1);
     let two = list().looks(2, 0x00);
-    assert_eq!(asked_for(&[0, 0, 1, 0x41], &[0xee; 2], 1, Err(0), &two), 2);
+    let answers = &[0, 0, 1, 0x41];
+    assert_eq!(asked_for(answers, &[0xee; 2], 1, at_first, &two), 2);
     // The answers count over all of the waits: here the second wait ends at its first poll.
     let second = list().look(0x00).hit(0x41).look(0x00);
     let answers = &[0, 1, 0x41, 0, 1, 0x42];
     assert_eq!(
-        asked_for(answers, &[0x41, 0xee, 0xee], 1, Err(1), &second),
+        asked_for(answers, &[0x41, 0xee, 0xee], 1, Err((1, PATIENCE)), &second),
         2
     );
 }
@@ -154,8 +170,12 @@ fn no_poll_follows_the_answer_to_wait_no_longer() {
 fn the_spin_limit_ends_a_wait_for_a_byte_too() {
     let limit = list().hit(0x41).looks(3, 0x00);
     let came = [0x41, 0xee];
-    assert_eq!(asked_for(&[1, 0x41], &came, usize::MAX, Err(1), &limit), 3);
-    assert_eq!(asked_for(&[1, 0x41], &came, 2, Err(1), &limit), 3);
+    let stalled = Err((1, SPIN_LIMIT));
+    assert_eq!(asked_for(&[1, 0x41], &came, usize::MAX, stalled, &limit), 3);
+    assert_eq!(asked_for(&[1, 0x41], &came, 3, stalled, &limit), 3);
+    // At the poll that reaches the limit the caller is asked too, and its answer decides.
+    let ended = Err((1, PATIENCE));
+    assert_eq!(asked_for(&[1, 0x41], &came, 2, ended, &limit), 3);
 }
 
 #[test]
@@ -168,8 +188,8 @@ fn errors_that_the_polls_clear_are_saved() {
         turns -= 1;
         turns == 0
     };
-    let stall = Err(StalledError { done: 1 });
-    assert_eq!(uart.receive_bytes_while(&mut slots, once), stall);
+    let ended = Err(wait_error((1, PATIENCE)));
+    assert_eq!(uart.receive_bytes_while(&mut slots, once), ended);
     assert_eq!(slots, [0x41, 0xee]);
     let shown = LSR::OVERRUN_ERROR | LSR::PARITY_ERROR | LSR::FRAMING_ERROR;
     assert_eq!(uart.lsr(), shown);
@@ -179,13 +199,13 @@ fn errors_that_the_polls_clear_are_saved() {
 fn asked_for_empty(
     answers: &'static [u8],
     left: usize,
-    done: Result<(), usize>,
+    done: Result<(), (usize, WaitEnd)>,
     accesses: &Accesses,
 ) -> usize {
     let mut uart = impatient(Listed(answers));
     let mut caller = Times { left, asked: 0 };
     let flushed = uart.flush_while(&mut caller);
-    assert_eq!(flushed, done.map_err(|done| StalledError { done }));
+    assert_eq!(flushed, done.map_err(wait_error));
     assert_eq!(uart.backend().log.entries(), accesses.entries());
     caller.asked
 }
@@ -197,12 +217,16 @@ fn who_flushes_is_asked_after_each_poll_that_fails() {
     let late = list().look(0x00).look(0x20).look(0x60);
     assert_eq!(asked_for_empty(&[0x00, 0x20, 0x60], 2, Ok(()), &late), 2);
     let ended = list().look(0x00).look(0xbf);
-    assert_eq!(asked_for_empty(&[0x00, 0xbf, 0x40], 1, Err(0), &ended), 2);
+    let no_longer = Err((0, PATIENCE));
+    let answers = &[0x00, 0xbf, 0x40];
+    assert_eq!(asked_for_empty(answers, 1, no_longer, &ended), 2);
     let limit = list().look(0x00).look(0x20).look(0xbf);
-    assert_eq!(
-        asked_for_empty(&[0x00, 0x20, 0xbf, 0x40], usize::MAX, Err(0), &limit),
-        3
-    );
+    let answers = &[0x00, 0x20, 0xbf, 0x40];
+    let stalled = Err((0, SPIN_LIMIT));
+    assert_eq!(asked_for_empty(answers, usize::MAX, stalled, &limit), 3);
+    assert_eq!(asked_for_empty(answers, 3, stalled, &limit), 3);
+    // At the poll that reaches the limit the caller is asked too, and its answer decides.
+    assert_eq!(asked_for_empty(answers, 2, no_longer, &limit), 3);
 }
 
 #[test]

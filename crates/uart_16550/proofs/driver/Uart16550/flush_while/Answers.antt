@@ -1,4 +1,4 @@
-use Rattle.std.proofs.Common.{◌<◌, ◌++◌, [], ◌∷◌, true, false, inr, refl, sym, arith}
+use Rattle.std.proofs.Common.{◌<◌, ◌++◌, [], ◌∷◌, true, false, refl, sym, arith}
 use Rattle.std.proofs.lemmas.Fn.{FoldsTo-push}
 use Rattle.uart_spec.specs.declared.registers.offsets.TheConstants as offsets
 use Rattle.uart_16550.specs.Driver.{settings}
@@ -28,7 +28,7 @@ returns-then-not-keep_waiting g c =
     record {
       said = keeps_waiting polls ++ false ∷ [];
       asked = FoldsTo-push _ _ _ _ false _ c.loop-poll.invariant.asked c.if-not-keep_waiting.ensures;
-      made = made_among (λ l t. (refl, inr (polls, few, refl, t)))
+      made = made_among (λ l t. (refl, (polls, few, refl, t)))
           (made_times _ _ c.loop-poll.invariant.made (made_asks offsets.LSR _ _ _ c.read_lsr.ensures (sym (c.if-contains.ensures tt))));
     }
 

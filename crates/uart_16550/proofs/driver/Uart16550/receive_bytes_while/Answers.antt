@@ -9,12 +9,12 @@ use Rattle.uart_16550.proofs.driver.Uart16550.receive_bytes_while.Goals as goal
 pub loop-done-init : goal.loop-done-init
 loop-done-init g c = record { received = []; bytes = refl; asked = refl; made = made_none; rest = refl }
 
-pub returns-in-None-clause-made : goal.returns-in-None-clause-made
-returns-in-None-clause-made g c =
+pub returns-in-Err-clause-made : goal.returns-in-Err-clause-made
+returns-in-Err-clause-made g c =
     let inv = c.loop-done.invariant in
     let fewer : length (take c.loop-done.done c.loop-done.buffer) < length c.args.buffer.now = omega (arith, length-take {A = ℕ}) in
     let done : c.loop-done.done ≡ length (take c.loop-done.done c.loop-done.buffer) = omega (arith, length-take {A = ℕ}) in
-    let wait = c.in-None.ensures in
+    let wait = c.in-Err.ensures in
     record {
       said = keeps_waiting (misses_of inv.received) ++ wait.said;
       asked = folds_append _ _ _ _ (keeps_waiting (misses_of inv.received)) wait.said inv.asked wait.asked;
@@ -27,13 +27,13 @@ loop-done-preserved g c =
     let inv = c.loop-done.invariant in
     let k = c.loop-done.done in
     let within : k < length c.loop-done.buffer = omega arith in
-    let wait = c.in-Some.ensures in
-    let one : Awaited ℕ = record { misses = wait.made.fits.0; item = c.in-Some.byte } in
+    let wait = c.in-Ok.ensures in
+    let one : Awaited ℕ = record { misses = wait.made.fits.0; item = c.in-Ok.byte } in
     record {
       received = inv.received ++ one ∷ [];
       bytes = rw map-append
-          (take_more_set c.loop-done.buffer k c.in-Some.byte within ∙ ap (λ (xs : List ℕ). xs ++ c.in-Some.byte ∷ []) inv.bytes);
+          (take_more_set c.loop-done.buffer k c.in-Ok.byte within ∙ ap (λ (xs : List ℕ). xs ++ c.in-Ok.byte ∷ []) inv.bytes);
       asked = asked_more _ _ _ _ inv.received one wait.said inv.asked wait.made.fits.1 wait.asked;
       made = made_more ByteAfter inv.received one inv.made (made_fits wait.made wait.made.fits.2);
-      rest = drop-set-lt (k + 1) c.loop-done.buffer k c.in-Some.byte (omega arith) ∙ drop_more_same _ _ k inv.rest;
+      rest = drop-set-lt (k + 1) c.loop-done.buffer k c.in-Ok.byte (omega arith) ∙ drop_more_same _ _ k inv.rest;
     }

@@ -1,4 +1,4 @@
-use Rattle.std.proofs.Common.{◌<◌, ◌++◌, [], ◌∷◌, true, false, inr, refl, arith}
+use Rattle.std.proofs.Common.{◌<◌, ◌++◌, [], ◌∷◌, true, false, refl, arith}
 use Rattle.std.proofs.lemmas.Fn.{FoldsTo-push}
 use Rattle.uart_16550.specs.Driver.{settings}
 use Rattle.uart_16550.specs.Patience.{keeps_waiting}
@@ -26,7 +26,7 @@ returns-then-not-keep_waiting g c =
     record {
       said = keeps_waiting polls ++ false ∷ [];
       asked = FoldsTo-push _ _ _ _ false _ c.loop-poll.invariant.asked c.if-not-keep_waiting.ensures;
-      made = made_among (λ l t. inr (polls, few, refl, t)) (made_times _ _ c.loop-poll.invariant.made c.in_default.ensures);
+      made = made_among (λ l t. (polls, few, refl, t)) (made_times _ _ c.loop-poll.invariant.made c.in_default.ensures);
     }
 
 pub loop-poll-preserved : goal.loop-poll-preserved

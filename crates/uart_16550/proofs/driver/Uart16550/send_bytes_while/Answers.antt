@@ -13,13 +13,13 @@ use Rattle.uart_16550.proofs.driver.Uart16550.send_bytes_while.Goals as goal
 pub loop-done-init : goal.loop-done-init
 loop-done-init g c = record { within = omega arith; rounds = []; cut = refl; asked = refl; made = made_none }
 
-pub returns-then-not-wait_to_send_while-clause-made : goal.returns-then-not-wait_to_send_while-clause-made
-returns-then-not-wait_to_send_while-clause-made g c =
+pub returns-in-Err-clause-made : goal.returns-in-Err-clause-made
+returns-in-Err-clause-made g c =
     let inv = c.loop-done.invariant in
     let rest = drop c.loop-done.done c.args.bytes.now in
     let left : 0 < length rest = omega (arith, length-drop {A = ℕ}) in
     let sums : c.loop-done.done + length rest ≡ length c.args.bytes.now = omega (arith, length-drop {A = ℕ}) in
-    let wait = c.if-not-wait_to_send_while.ensures in
+    let wait = c.in-Err.ensures in
     record {
       said = keeps_waiting (misses_of inv.rounds) ++ wait.said;
       asked = folds_append _ _ _ _ (keeps_waiting (misses_of inv.rounds)) wait.said inv.asked wait.asked;
@@ -32,10 +32,8 @@ loop-done-preserved g c =
     let set = settings c.args.self.now in
     let rest = drop c.loop-done.done c.args.bytes.now in
     let left : 0 < length rest = omega (arith, length-drop {A = ℕ}) in
-    let wait = c.wait_to_send_while.ensures in
-    let made : Made g.B.Backend.step (WaitsWhile wait.said true) c.loop-done.self c.wait_to_send_while.new.self =
-    subst (λ (ready : Bool). Made g.B.Backend.step (WaitsWhile wait.said ready) c.loop-done.self c.wait_to_send_while.new.self)
-    c.if-not-wait_to_send_while.false wait.made in
+    let wait = c.in_default.ensures in
+    let made = wait.made in
     let misses : ℕ = made.fits.0 in
     let size : c.write_burst-done.result ≡ burst_size set rest =
     (rw take_rest at c.write_burst-done.ensures.size) ∙

@@ -1,4 +1,4 @@
-use Rattle.std.proofs.Common.{◌<◌, ◌++◌, [], ◌∷◌, true, false, inr, refl, arith}
+use Rattle.std.proofs.Common.{◌<◌, ◌++◌, [], ◌∷◌, true, false, refl, arith}
 use Rattle.std.proofs.lemmas.Fn.{FoldsTo-push}
 use Rattle.uart_16550.specs.Driver.{settings}
 use Rattle.uart_16550.specs.Patience.{keeps_waiting}
@@ -27,7 +27,7 @@ returns-then-not-keep_waiting g c =
     record {
       said = keeps_waiting turn ++ false ∷ [];
       asked = FoldsTo-push _ _ _ _ false _ c.loop-turn.invariant.asked c.if-not-keep_waiting.ensures;
-      made = made_among (λ l t. inr (turn, few, refl, t)) (made_times _ _ c.loop-turn.invariant.made miss);
+      made = made_among (λ l t. (turn, few, refl, t)) (made_times _ _ c.loop-turn.invariant.made miss);
     }
 
 pub loop-turn-preserved : goal.loop-turn-preserved
