@@ -43,7 +43,6 @@ FIRST = [
     Command(".ci/houses"),
     Command(".ci/constants"),
     Command(".ci/parts"),
-    Command(".ci/calling"),
     Command(".ci/catch-alls"),
     Command(".ci/pictures --check"),
     Command(".ci/chips"),
