@@ -5,6 +5,7 @@
 
 use core::fmt::{self, Write as _};
 use core::num::{NonZeroU64, NonZeroUsize};
+use core::time::Duration;
 use uart_16550::Flags;
 use uart_16550::discovery::{self, OptionError, PciError, PortDescription, TableError, TreeError, TreePort, UnknownClockError};
 use uart_16550::native::backend::{
@@ -343,6 +344,10 @@ calls! {
     config_nanoseconds_covering(config: &Config, clocks: u64) -> Option<u64> { config.nanoseconds_covering(clocks) }
     config_clocks_within(config: &Config, nanoseconds: u64) -> Option<u64> { config.clocks_within(nanoseconds) }
     config_clocks_covering(config: &Config, nanoseconds: u64) -> Option<u64> { config.clocks_covering(nanoseconds) }
+    config_duration_within(config: &Config, clocks: u64) -> Option<Duration> { config.duration_within(clocks) }
+    config_duration_covering(config: &Config, clocks: u64) -> Option<Duration> { config.duration_covering(clocks) }
+    config_clocks_within_duration(config: &Config, duration: Duration) -> Option<u64> { config.clocks_within_duration(duration) }
+    config_clocks_covering_duration(config: &Config, duration: Duration) -> Option<u64> { config.clocks_covering_duration(duration) }
     config_nearest(config: Config, per_mille: u32) -> Result<Config, NearestDivisorError> { config.nearest(per_mille) }
     config_checked_nearest(config: Config, per_mille: u32) -> Result<Config, NearestDivisorError> { config.checked_nearest(per_mille) }
     config_cmp(config: &Config, other: &Config) -> core::cmp::Ordering { config.cmp(other) }

@@ -32,7 +32,7 @@ ATOMIC = re.compile(r"Atomic\w*")
 # What it names by a path of core, of the real std, of the real alloc or of `embedded_io`, by the module, the type or the trait in front.
 # Beside these are its own names and those of the emitted code, and nothing else: so nothing that tells where code runs, or on what.
 PATHS = {
-    "core": "cell cmp convert error fmt format_args marker mem num ops slice str".split(),
+    "core": "cell cmp convert error fmt format_args marker mem num ops slice str time".split(),
     "std": "io path".split(),
     "heap": "collections string vec".split(),
     "alloc": "AllocError AllocFailed Global boxed vec".split(),
@@ -43,6 +43,9 @@ PATHS = {
     "ops": "BitAnd BitAndAssign BitOr BitOrAssign BitXor BitXorAssign Deref DerefMut Not Sub SubAssign".split(),
     "slice": ["Iter"],
     "str": ["from_utf8"],
+    # A length of time is a number. What the time is now is none of core, and no clock is named here.
+    "time": ["Duration"],
+    "Duration": ["from_nanos"],
     "error": ["Error"],
     "fmt": "Arguments Binary Debug Display Error Formatter LowerHex Octal Result UpperHex Write write".split(),
     "io": "Error ErrorKind Read Result Write".split(),
@@ -63,14 +66,21 @@ PATHS = {
     **{name: [call] for name, call in (("Read", "read"), ("ReadReady", "read_ready"), ("WriteReady", "write_ready"))},
     "Write": "flush write".split(),
 }
-# What only one file names: which order of bytes the target has, which is what its constant is.
-OF_ONE_FILE = {"rust/proved/uart_spec/src/by_hand/layout.rs": ["u16 :: from_ne_bytes"]}
+# What only one file names: which order of bytes the target has, which is what its constant is; and whether a number of 128 bits fits into
+# 64, which it does or not on each target.
+OF_ONE_FILE = {
+    "rust/proved/uart_spec/src/by_hand/duration.rs": ["u64 :: try_from"],
+    "rust/proved/uart_spec/src/by_hand/layout.rs": ["u16 :: from_ne_bytes"],
+}
 # The methods of core that it calls beside those of emitted code.
 METHODS = """
-debug_tuple encode_utf8 expect fill flatten get_mut into_boxed_slice saturating_sub split_at_mut to_str unwrap_or_default
+as_nanos debug_tuple encode_utf8 expect fill flatten get_mut into_boxed_slice saturating_sub split_at_mut to_str unwrap_or_default
 """.split()
 # Those of the emitted code.
-OF_EMITTED = "data fifo_size held_len is_interrupting level output send_bytes_exact waiting_len wire".split()
+OF_EMITTED = """
+clocks_covering clocks_within data fifo_size held_len is_interrupting level nanoseconds_covering nanoseconds_within output send_bytes_exact
+waiting_len wire
+""".split()
 # What stands in front of a path of our own, or of one that begins with `::` and so with the name of a library.
 OF_PATHS = ["crate", "self", "super", "Self", ">", "{", ",", "("]
 # Types of the language, whose functions are the target's. None is a name of its own.

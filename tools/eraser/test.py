@@ -255,6 +255,7 @@ BYTES = [
 
 # An edit of a file by hand around the emitted packages, and the cause. An empty old text is a new file.
 LAYOUT = "rust/proved/uart_spec/src/by_hand/layout.rs"
+DURATION = "rust/proved/uart_spec/src/by_hand/duration.rs"
 ERRORS = "rust/proved/uart_spec/src/by_hand/errors.rs"
 SERIAL = "rust/uart_16550_chip/src/serial.rs"
 REGISTERS = "rust/proved/uart_spec/src/registers/by_hand.rs"
@@ -266,6 +267,7 @@ AROUND = [
     (LAYOUT, "impl ByteOrder {", "#[cfg(unix)]\nimpl ByteOrder {", "`cfg`"),
     (LAYOUT, "impl ByteOrder {", "#[cfg_attr(all(), cfg(unix))]\nimpl ByteOrder {", "`cfg_attr`"),
     (LAYOUT, "impl ByteOrder {", "fn f() { other_factor() }\nimpl ByteOrder {", "`other_factor`, which requires"),
+    (DURATION, "use core::time::Duration;", "use core::time::Duration;\nuse std::time::Instant;", "`time::Instant`"),
     (ERRORS, "$(impl Copy for $Error {})*", "$(impl Drop for $Error { fn drop(&mut self) {} })*", "the trait `Drop` for a type"),
     (REGISTERS, "SubAssign sub_assign difference;", "Deref deref difference;", "the trait `Deref` for a type"),
     (REGISTERS, "#[$says])*\n            fn $operator(&mut self", "#[$other])*\n            fn $operator(&mut self", "the attribute `$ other`"),

@@ -1,5 +1,6 @@
 //! How long a character takes, and how late a handler may be: worked out by hand, in clocks of the chip's input.
 
+use core::time::Duration;
 use proved_uart_spec::registers::{FifoTriggerLevel, Parity, WordLength};
 use proved_uart_spec::{BaudRate, Config, FifoSize, InvalidDivisorError};
 
@@ -155,6 +156,38 @@ fn nanoseconds_are_rounded_to_the_safe_side() {
     assert_eq!(none.nanoseconds_within(1), None);
     assert_eq!(none.nanoseconds_covering(0), None);
     assert_eq!(none.clocks_within(u64::MAX), Some(0));
+}
+
+#[test]
+fn durations_are_these_nanoseconds() {
+    let config = Config::DEFAULT;
+    assert_eq!(config.duration_within(160), Some(Duration::from_nanos(86_805)));
+    assert_eq!(config.duration_covering(160), Some(Duration::from_nanos(86_806)));
+    assert_eq!(config.clocks_within_duration(Duration::from_micros(1)), Some(1));
+    assert_eq!(config.clocks_covering_duration(Duration::from_micros(1)), Some(2));
+    // Seconds and their fraction count.
+    assert_eq!(config.duration_within(3_686_400), Some(Duration::from_secs(2)));
+    assert_eq!(config.clocks_within_duration(Duration::new(2, 500_000_000)), Some(4_608_000));
+    assert_eq!(config.duration_covering(0), Some(Duration::ZERO));
+    assert_eq!(config.clocks_covering_duration(Duration::ZERO), Some(0));
+    assert_eq!(config.clocks_covering_duration(Duration::from_nanos(1)), Some(1));
+    // The longest duration in nanoseconds of 64 bits, and one nanosecond more.
+    let longest = Duration::from_nanos(u64::MAX);
+    assert_eq!(config.clocks_within_duration(longest), config.clocks_within(u64::MAX));
+    assert_eq!(config.clocks_within_duration(longest), Some(34_001_038_676_661_445));
+    assert_eq!(config.clocks_covering_duration(longest), Some(34_001_038_676_661_446));
+    for longer in [longest + Duration::from_nanos(1), Duration::MAX] {
+        assert_eq!(config.clocks_within_duration(longer), None);
+        assert_eq!(config.clocks_covering_duration(longer), None);
+    }
+    assert_eq!(config.duration_within(34_001_038_676_661_445), Some(Duration::from_nanos(18_446_744_073_709_551_323)));
+    assert_eq!(config.duration_within(34_001_038_676_661_446), None);
+    assert_eq!(config.duration_covering(u64::MAX), None);
+    let none = Config { frequency: 0, ..Config::DEFAULT };
+    assert_eq!(none.duration_within(1), None);
+    assert_eq!(none.duration_covering(0), None);
+    let fast = Config { frequency: u32::MAX, ..Config::DEFAULT };
+    assert_eq!(fast.clocks_within_duration(longest), None);
 }
 
 /// The same by numbers of 128 bits, for frequencies and times of all sizes.
