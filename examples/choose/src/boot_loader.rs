@@ -3,13 +3,16 @@
 use uart_16550::backend::Backend;
 use uart_16550::embedded_io::Write;
 use uart_16550::spec::registers::MCR;
-use uart_16550::{Config, FifoAction, InitError, Uart16550};
+use uart_16550::{BaudRate, Config, FifoAction, InitError, Uart16550};
 
-/// Takes the port as the firmware left it, and sets it up if the firmware did not.
+/// Takes the port as the firmware left it, and sets it up for 115,200 baud if the firmware did not.
 pub fn take<B: Backend>(registers: B) -> Result<Uart16550<B>, InitError> {
     let mut uart = Uart16550::new_with_backend(registers);
     if uart.attach().is_err() {
-        uart.init(Config::DEFAULT)?;
+        uart.init(Config {
+            baud_rate: BaudRate::Baud115200,
+            ..Config::DEFAULT
+        })?;
     }
     Ok(uart)
 }

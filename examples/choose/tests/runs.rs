@@ -94,6 +94,8 @@ fn firmware_sets_up_a_board() {
 fn a_boot_loader_takes_a_port_and_leaves_it() {
     // Nobody has set this one up.
     let mut uart = boot_loader::take(bench()).unwrap();
+    // 115,200 baud at the 1,843,200 Hz of a PC.
+    assert_eq!(uart.backend().0.divisor(), 1);
     boot_loader::leave(&mut uart);
 
     // This one is as the first has left it.
