@@ -158,6 +158,9 @@ impl<B: Backend> Uart16550<B> {
     /// Initialises the device with this configuration, which must be computable
     /// (`Config::is_computable`).
     ///
+    /// A configuration that is not computable is no error of this call. Where it comes from
+    /// elsewhere, call `checked_init`, which returns an error for it.
+    ///
     /// Call it before any other call, again after raw accesses that changed the setup of the chip,
     /// and to change the configuration. Call it with the processor's interrupts masked: an
     /// interrupt may be pending before it returns.
@@ -185,6 +188,10 @@ impl<B: Backend> Uart16550<B> {
     ///
     /// Without a trigger level the FIFOs are off, and bytes are sent one at a time. Some versions
     /// of QEMU were reported to stall in this mode.
+    ///
+    /// A prescaler division factor takes part in the divisor alone: PSD is not written, so the chip
+    /// has to divide its clock by the factor plus one already. `None` is as 0, which divides by
+    /// one, and `Some(15)` divides by 16. A larger one is not computable.
     ///
     /// # Errors
     ///
