@@ -8,8 +8,10 @@ SAID = (
     (", with `done` 0, after", " after"),
     ("a wait for one burst: k of the bytes were sent, or", "a wait for one burst: `*count` bytes from the front were sent, or"),
     ("a wait for bytes into n slots: some were received, or", "a wait for bytes: some were received, or"),
-    ("`WaitError` if `patience` answered to wait no longer, or after", "`U16550_WAIT_ENDED` if `patience` answered to wait no longer, or"
-     " `U16550_STALLED` after"),
+    (
+        "`WaitError` if `patience` answered to wait no longer, or after",
+        "`U16550_WAIT_ENDED` if `patience` answered to wait no longer, or `U16550_STALLED` after",
+    ),
     (" in a row: `ended_by` tells which.", " in a row."),
     (", as many as the error reports, which tells what ended that wait", ", as many as `*stalled_at` says; the result tells what ended that wait"),
     ("and the error tells what ended it", "and the result tells what ended it"),
