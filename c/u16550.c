@@ -1882,6 +1882,8 @@ uart_set_up(struct u16550_core_driver *uart, struct u16550_core_config config, u
  * Initialises the device with this configuration, which must be computable
  * (uart_config_is_computable).
  *
+ * Its callers have refused any other.
+ *
  * Call it before any other call, again after raw accesses that changed the setup of the chip, and
  * to change the configuration. Call it with the processor's interrupts masked: an interrupt may be
  * pending before it returns.
@@ -1909,6 +1911,10 @@ uart_set_up(struct u16550_core_driver *uart, struct u16550_core_config config, u
  *
  * Without a trigger level the FIFOs are off, and bytes are sent one at a time. Some versions of
  * QEMU were reported to stall in this mode.
+ *
+ * A prescaler division factor takes part in the divisor alone: PSD is not written, so the chip has
+ * to divide its clock by the factor plus one already. Without one it divides by one, and with 15
+ * by 16. A larger one is not computable.
  *
  * Errors
  *

@@ -34,6 +34,11 @@ SAID = (
     ("The driver is returned with the error, unchanged.", "Then `*driver` is the driver, unchanged."),
     ("Nothing was written then, and the driver is returned: `flush` it, and try again.", "Nothing was written then, and `*driver` is the driver."),
     # What a call does for more than one caller.
+    (
+        "A configuration that is not computable is no error of this call. Where it comes from elsewhere, call `checked_init`, which returns an"
+        " error for it.",
+        "Its callers have refused any other.",
+    ),
     ("until the last write of `init`. A handler", "until the caller's last write. A handler"),
     (
         "The original driver makes this write, and `init` follows it.",
@@ -45,6 +50,7 @@ SAID = (
         "Without FIFO each burst is one byte. A loop of its own for those would ask for less, and would be the same code again.",
         "Without FIFO each burst is one byte, which needs no loop of its own.",
     ),
+    ("`None` is as 0, which divides by one, and `Some(15)` divides by 16.", "Without one it divides by one, and with 15 by 16."),
     # What is no reason in C.
     ("The result is written field by field, so that no value waits in a register for the others.", ""),
     ("A refusal returns the driver, which may hold a device that cannot be obtained again.", ""),
